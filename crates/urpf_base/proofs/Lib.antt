@@ -1,0 +1,4 @@
+pub mod Bits
+pub mod Copying
+pub mod Growth
+pub mod Series

@@ -1,0 +1,5 @@
+pub mod Address
+pub mod Faults
+pub mod Lists
+pub mod Memory
+pub mod Series

@@ -1,0 +1,23 @@
+-- What contracts see of sources and sinks in memory. Our own choice.
+use Rattle.std.specs.Prelude.{ℕ, ◌+◌, ◌-◌, ◌^◌, min, List}
+
+-- the calls that fail, by their numbers from 1, how many calls there were, and how many failed
+pub record Schedule : Type 0 where
+  pub fails : List ℕ
+  pub calls : ℕ
+  pub faults : ℕ
+
+-- a count of 64 bits goes up by one, and stands still at its last value
+abbrev pub counted_up : ℕ → ℕ
+counted_up n = min (n + 1) (2 ^ 64 - 1)
+
+-- the octets that a source in memory has left, and which calls fail
+pub record StoredText : Type 0 where
+  pub left : List ℕ
+  pub schedule : Schedule
+
+-- the octets that a sink in memory took, the most that it takes, and which calls fail
+pub record StoredOutput : Type 0 where
+  pub held : List ℕ
+  pub room : ℕ
+  pub schedule : Schedule

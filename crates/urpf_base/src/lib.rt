@@ -1,0 +1,25 @@
+//! What every crate of the router stands on: addresses, prefixes and cover, a line of output, and
+//! the traits through which octets come in and go out.
+#![tactic(auto)]
+
+mod address;
+mod counting;
+mod line_buffer;
+mod memory;
+mod outside;
+mod prefixes;
+mod reading;
+mod schedule;
+mod writing;
+
+pub use address::Addr;
+pub use counting::Steps;
+pub use line_buffer::Line;
+pub use memory::{MemSink, MemSource, SureSink, SureSource};
+pub use outside::{Failed, OutOfMemory, Sink, Source};
+pub use prefixes::Prefix;
+pub use reading::{TextFault, read_text};
+pub use writing::write_all;
+
+#[cfg(test)]
+mod tests;

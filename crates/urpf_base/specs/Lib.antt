@@ -2,5 +2,5 @@ pub mod Address
 pub mod Faults
 pub mod Lists
 pub mod Memory
-pub mod Routes
+pub mod RouteUpdates
 pub mod Series

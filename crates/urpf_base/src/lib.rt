@@ -10,6 +10,7 @@ mod outside;
 mod prefixes;
 mod reading;
 mod schedule;
+mod verdicts;
 mod writing;
 
 pub use address::Addr;
@@ -19,6 +20,7 @@ pub use memory::{MemSink, MemSource, SureSink, SureSource};
 pub use outside::{Failed, OutOfMemory, Sink, Source};
 pub use prefixes::Prefix;
 pub use reading::{TextFault, read_text};
+pub use verdicts::Verdict;
 pub use writing::write_all;
 
 #[cfg(test)]

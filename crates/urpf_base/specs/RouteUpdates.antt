@@ -5,17 +5,17 @@ use Rattle.urpf_base.specs.Address.{Block}
 use Rattle.urpf_base.specs.Lists.{Has}
 
 -- what one UPDATE does: it withdraws prefixes, and then announces prefixes, all with one origin
-pub record Routes : Type 0 where
+pub record RouteUpdate : Type 0 where
   pub withdrawn : List Block
   pub announced : List Block
   pub origin : Option ℕ
 
 -- the UPDATE says nothing of the prefix
-abbrev pub IsSilent : Block → Routes → Type 0
+abbrev pub IsSilent : Block → RouteUpdate → Type 0
 IsSilent prefix update = (Has update.withdrawn prefix → ⊥) × (Has update.announced prefix → ⊥)
 
 -- some UPDATE announces the prefix with this origin, and no later one mentions it
-abbrev pub HasRoute : List Routes → Block → Option ℕ → Type 0
+abbrev pub HasRoute : List RouteUpdate → Block → Option ℕ → Type 0
 HasRoute [] prefix origin = ⊥
 HasRoute (u ∷ later) prefix origin =
     HasRoute later prefix origin ⊎ (Has u.announced prefix × (origin ≡ u.origin) × AllByRecursion (IsSilent prefix) later)

@@ -1,0 +1,30 @@
+//! How a command ended.
+
+/// A text or stream that a status names.
+#[derive(Clone, Copy, Debug, PartialEq, Eq)]
+pub enum Object {
+    /// The stream of one session.
+    Stream,
+}
+
+/// The answer of a command.
+#[derive(Clone, Copy, Debug, PartialEq, Eq)]
+pub enum Status {
+    /// The inputs were read to their ends and the output was taken.
+    Done,
+    /// The words fit no form of the command.
+    Usage,
+    /// The text has more octets than its limit.
+    TooLong(Object),
+    /// A read of the object failed.
+    ReadFault(Object),
+    /// A write failed.
+    WriteFault,
+    /// The message at this place, counted from 1, has this error code and subcode
+    /// (RFC 4271, section 6).
+    BadSession { code: u8, sub: u8, place: u64 },
+    /// The message at this place, counted from 1, is of a kind that the command does not read.
+    Unsupported { place: u64 },
+    /// Memory could not be had.
+    OutOfMemory,
+}

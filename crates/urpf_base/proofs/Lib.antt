@@ -1,4 +1,6 @@
 pub mod Bits
 pub mod Copying
 pub mod Growth
+pub mod Membership
+pub mod RouteUpdates
 pub mod Series

@@ -1,0 +1,49 @@
+//! The three fields of an UPDATE's body (RFC 4271, section 4.3): withdrawn routes and path
+//! attributes, each after its length of two octets, and the NLRI up to the end.
+ghost use Rattle.std.specs.Prelude.{◌≡◌, ◌<◌, ◌^◌, ◌++◌, ℕ, List, length, IfSome, IsSomeAnd};
+ghost use Rattle.bgp_update.specs.Layout.{counted, IsLaidOut};
+
+/// The fields of a body, which they borrow.
+#[derive(Clone, Copy)]
+pub struct Fields<'a> {
+    pub withdrawn: &'a [u8],
+    pub attributes: &'a [u8],
+    pub nlri: &'a [u8],
+}
+
+/// The three fields. None where a length says more octets than follow it.
+pub fn read_fields(body: &[u8]) -> Option<Fields<'_>>
+    ensures found { IfSome result (λ f. IsLaidOut body.now f.withdrawn.now f.attributes.now f.nlri.now) }
+    ensures only { (withdrawn attributes nlri : List ℕ) → IsLaidOut body.now withdrawn attributes nlri
+        → IsSomeAnd result (λ f. (f.withdrawn.now ≡ withdrawn) × (f.attributes.now ≡ attributes)
+        × (f.nlri.now ≡ nlri)) }
+{
+    let Some((withdrawn, rest)) = counted_field(body) else {
+        return None;
+    };
+    let Some((attributes, nlri)) = counted_field(rest) else {
+        return None;
+    };
+    Some(Fields {
+        withdrawn,
+        attributes,
+        nlri,
+    })
+}
+
+/// A field after its length of two octets, and what follows it.
+fn counted_field(text: &[u8]) -> Option<(&[u8], &[u8])>
+    ensures found { IfSome result (λ x. text.now ≡ counted x.0.now ++ x.1.now) }
+    ensures fits { IfSome result (λ x. length x.0.now < 2 ^ 16) }
+    ensures only { (field rest : List ℕ) → length field < 2 ^ 16 → text.now ≡ counted field ++ rest
+        → IsSomeAnd result (λ x. (x.0.now ≡ field) × (x.1.now ≡ rest)) }
+{
+    let [high, low, rest @ ..] = text else {
+        return None;
+    };
+    let count = u16::from_be_bytes([*high, *low]) as usize;
+    if rest.len() < count {
+        return None;
+    }
+    Some(rest.split_at(count))
+}

@@ -1,0 +1,5 @@
+//! The body of an UPDATE (RFC 4271, section 4.3): octets come in, and the prefixes that it withdraws
+//! and announces go out, without memory of their own.
+#![tactic(auto)]
+
+mod layout;

@@ -3,5 +3,11 @@
 #![tactic(auto)]
 
 mod family;
+mod fields;
+mod spelling;
 
 pub use family::Family;
+pub use fields::{Prefixes, check};
+
+#[cfg(test)]
+mod tests;

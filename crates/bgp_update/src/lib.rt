@@ -3,3 +3,9 @@
 #![tactic(auto)]
 
 mod layout;
+mod plain;
+mod reading;
+mod view;
+
+pub use reading::read_update;
+pub use view::{Announced, UpdateView, Withdrawn};

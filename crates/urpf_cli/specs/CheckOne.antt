@@ -1,0 +1,81 @@
+-- What `check` answers and writes. Our own choice, over the definitions of the protocol.
+use Rattle.std.specs.Prelude.{◌≡◌, ℕ, ◌<◌, ◌≤◌, List, [], ◌∷◌, ◌++◌, length, Option, Some, None, Bool, IsTrue, ◌↔◌, codes}
+use Rattle.std.specs.Io.KnownBytes.{Appends}
+use Rattle.urpf_base.specs.declared.address.Addr.{Addr}
+use Rattle.urpf_base.specs.Address.{Block, Covers}
+use Rattle.urpf_base.specs.Lists.{Has, AreDistinct}
+use Rattle.urpf_base.specs.RouteUpdates.{RouteUpdate, HasRoute}
+use Rattle.ip_text.specs.Texts.{SpellsAddr}
+use Rattle.report_text.specs.Lines.{one_line}
+use Rattle.urpf_cli.specs.Session.{IsRead, IsFaultAt, IsStrangeAt, updates_of}
+use Rattle.urpf_cli.specs.declared.check_one.TheConstants.{STREAM_OCTETS}
+use Rattle.urpf_cli.specs.declared.status.Object.TheVariants.{Stream}
+use Rattle.urpf_cli.specs.declared.status.Status.{Status}
+use Rattle.urpf_cli.specs.declared.status.Status.TheVariants.{Done, Usage, TooLong, ReadFault, WriteFault, BadSession, Unsupported, OutOfMemory}
+
+-- the words are `check`, the name of a session and the text of the source
+pub record AreWords (words : List (List ℕ)) (source : Addr) : Type 0 where
+  pub session : List ℕ
+  pub text : List ℕ
+  pub parts : words ≡ codes "check" ∷ session ∷ text ∷ []
+  pub spelled : SpellsAddr text source
+
+-- the line for this source over this stream: the messages, the prefixes that are left, each once, and whether one covers the source
+pub record IsCheckLine (stream : List ℕ) (source : Addr) (line : List ℕ) : Type 0 where
+  pub said : List (Option RouteUpdate)
+  pub rest : List ℕ
+  pub read : IsRead stream said rest
+  pub prefixes : List Block
+  pub distinct : AreDistinct prefixes
+  pub left : (p : Block) → Has prefixes p ↔ ((origin : Option ℕ) × HasRoute (updates_of said) p origin)
+  pub passes : Bool
+  pub verdict : IsTrue passes ↔ ((p : Block) × Has prefixes p × Covers p source)
+  pub text : line ≡ one_line source passes (length read.messages) (length prefixes) (length rest)
+
+-- the stream is not too long, and this is what reading it comes to
+pub record Within (stream : List ℕ) (outcome : Type 0) : Type 0 where
+  pub short : length stream ≤ STREAM_OCTETS
+  pub comes : outcome
+
+-- which status a stream deserves, where it is read to its end and the line is taken; no other status is deserved
+abbrev pub Fate : List ℕ → Status → Type 0
+Fate stream Done = Within stream ((said : List (Option RouteUpdate)) × (rest : List ℕ) × IsRead stream said rest)
+Fate stream Usage = ⊥
+Fate stream (TooLong Stream) = STREAM_OCTETS < length stream
+Fate stream (ReadFault object) = ⊥
+Fate stream WriteFault = ⊥
+Fate stream (BadSession code sub place) = Within stream ((code ≡ 1) × IsFaultAt stream sub place)
+Fate stream (Unsupported place) = Within stream (IsStrangeAt stream place)
+Fate stream OutOfMemory = ⊥
+
+-- no source fits the words
+abbrev pub FitNoForm : List (List ℕ) → Type 0
+FitNoForm words = (source : Addr) → AreWords words source → ⊥
+
+-- which status words and a stream deserve
+abbrev pub Deserves : List (List ℕ) → List ℕ → Status → Type 0
+Deserves words stream Usage = FitNoForm words
+Deserves words stream status = ((source : Addr) × AreWords words source) × Fate stream status
+
+-- the sink took the line of these words over this stream
+pub record WritesLine (words : List (List ℕ)) (stream : List ℕ) (old new : Option (List ℕ)) : Type 0 where
+  pub source : Addr
+  pub words_fit : AreWords words source
+  pub line : List ℕ
+  pub is_line : IsCheckLine stream source line
+  pub appended : Appends old new line
+
+-- the sink took a front of that line
+pub record WritesFront (words : List (List ℕ)) (stream : List ℕ) (old new : Option (List ℕ)) : Type 0 where
+  pub source : Addr
+  pub words_fit : AreWords words source
+  pub front : List ℕ
+  pub more : List ℕ
+  pub is_line : IsCheckLine stream source (front ++ more)
+  pub appended : Appends old new front
+
+-- every status but Done and the write fault
+abbrev pub IsQuiet : Status → Type 0
+IsQuiet Done = ⊥
+IsQuiet WriteFault = ⊥
+IsQuiet status = Unit {0}

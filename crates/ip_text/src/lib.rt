@@ -1,0 +1,14 @@
+//! The texts of addresses and numbers: octets come in and an address goes out, or an address or a
+//! number comes in and is appended to a line.
+#![tactic(auto)]
+
+mod cutting;
+mod numbers;
+mod printing;
+mod reading;
+
+pub use printing::{put_addr, put_number};
+pub use reading::read_addr;
+
+#[cfg(test)]
+mod tests;

@@ -1,0 +1,5 @@
+pub mod Order
+pub mod Sorted
+pub mod Viewed
+pub mod Walk
+pub mod Routes

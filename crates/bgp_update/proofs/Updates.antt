@@ -18,4 +18,4 @@ same_update withdrawn nlri other_withdrawn other_nlri u v same_w same_n uw un uo
     let e : u.withdrawn ≡ v.withdrawn = same_prefixes withdrawn other_withdrawn u.withdrawn v.withdrawn same_w uw vw in
     let f : u.announced ≡ v.announced = same_prefixes nlri other_nlri u.announced v.announced same_n un vn in
     ap (λ w. make w u.announced u.origin) e ∙ ap (λ a. make v.withdrawn a u.origin) f
-        ∙ ap (λ o. make v.withdrawn v.announced o) (uo ∙ sym vo)
+    ∙ ap (λ o. make v.withdrawn v.announced o) (uo ∙ sym vo)

@@ -26,5 +26,5 @@ pub fn read_update(body: &[u8]) -> Option<UpdateView<'_>>
     if !suit(fields.attributes, fields.nlri) {
         return None;
     }
-    Some(UpdateView::of(fields.withdrawn, fields.nlri))
+    Some(UpdateView::of(fields.withdrawn, fields.nlri, None))
 }

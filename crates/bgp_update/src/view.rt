@@ -1,5 +1,5 @@
 //! What an UPDATE withdraws and announces, read out of the octets of its body.
-ghost use Rattle.std.specs.Prelude.{◌≡◌, List, None};
+ghost use Rattle.std.specs.Prelude.{◌≡◌, List};
 ghost use Rattle.std.specs.Iterator.{YieldsFirst, item_count};
 ghost use Rattle.urpf_base.specs.Address.{Block};
 ghost use Rattle.bgp_nlri.specs.Nlri.{SpellsPrefixes};
@@ -7,7 +7,7 @@ ghost use Rattle.bgp_nlri.specs.declared.family.Family.TheVariants.{V4};
 
 use bgp_nlri::{Family, Prefixes};
 use std::marker::Model;
-use urpf_base::Prefix;
+use urpf_base::{Origin, Prefix};
 
 /// An UPDATE whose body was read and has no fault. It borrows the body, and contracts see what it
 /// withdraws and announces.
@@ -15,10 +15,10 @@ use urpf_base::Prefix;
 pub struct UpdateView<'a> {
     withdrawn: &'a [u8],
     nlri: &'a [u8],
+    origin: Origin,
 }
 
 impl<'a> Model for UpdateView<'a> {
-    ghost use Rattle.std.specs.Prelude.{None};
     ghost use Rattle.urpf_base.specs.RouteUpdates.{RouteUpdate};
     ghost use Rattle.bgp_nlri.specs.Front.{prefixes_in};
     ghost use Rattle.bgp_nlri.specs.declared.family.Family.TheVariants.{V4};
@@ -29,22 +29,26 @@ impl<'a> Model for UpdateView<'a> {
     ghost view = { λ u. record {
       withdrawn = prefixes_in V4 u.withdrawn.now;
       announced = prefixes_in V4 u.nlri.now;
-      origin = None;
+      origin = u.origin;
     } };
 
     ghost invariant = { λ u. AreFields u.withdrawn.now u.nlri.now };
 }
 
 impl<'a> UpdateView<'a> {
-    /// The UPDATE of these fields, both of which are well formed IPv4 prefixes.
-    pub(crate) fn of(withdrawn: &'a [u8], nlri: &'a [u8]) -> UpdateView<'a>
+    /// The UPDATE of these fields, both of which are well formed IPv4 prefixes, and this origin.
+    pub(crate) fn of(withdrawn: &'a [u8], nlri: &'a [u8], origin: Origin) -> UpdateView<'a>
         requires withdraws { (ps : List Block) × SpellsPrefixes V4 withdrawn.now ps }
         requires announces { (ps : List Block) × SpellsPrefixes V4 nlri.now ps }
         ensures withdrawn { SpellsPrefixes V4 withdrawn.now result.withdrawn }
         ensures announced { SpellsPrefixes V4 nlri.now result.announced }
-        ensures no_origin { result.origin ≡ None }
+        ensures origin { result.origin ≡ origin }
     {
-        UpdateView { withdrawn, nlri }
+        UpdateView {
+            withdrawn,
+            nlri,
+            origin,
+        }
     }
 
     /// The prefixes that are withdrawn, in their order.
@@ -61,6 +65,13 @@ impl<'a> UpdateView<'a> {
     {
         let prefixes = Prefixes::over(self.nlri, Family::V4);
         Announced { prefixes }
+    }
+
+    /// The origin of all announced prefixes.
+    pub fn origin(&self) -> Origin
+        ensures { result ≡ self.now.origin }
+    {
+        self.origin
     }
 }
 

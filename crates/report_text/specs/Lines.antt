@@ -1,0 +1,36 @@
+-- The lines of output. All of them are our own choice: fields parted by one space, numbers in decimal, a line feed at the end.
+use Rattle.std.specs.Prelude.{ℕ, Bool, if◌then◌else◌, List, ◌∷◌, ◌++◌, map, codes, decimal}
+use Rattle.std.specs.List.{concat}
+use Rattle.urpf_base.specs.declared.address.Addr.{Addr}
+use Rattle.ip_text.specs.Texts.{addr_text}
+
+-- what a run stands on: its interfaces and sessions, the distinct pairs, and the records that were skipped
+abbrev pub run_line : ℕ → ℕ → ℕ → ℕ → List ℕ
+run_line interfaces sessions pairs skipped =
+    codes "run interfaces " ++ decimal interfaces ++ codes " sessions " ++ decimal sessions ++ codes " pairs " ++ decimal pairs ++ codes " skipped " ++ decimal skipped ++ codes "\n"
+
+-- each number after a space
+abbrev pub spaced : List ℕ → List ℕ
+spaced numbers = concat (map (λ n. 32 ∷ decimal n) numbers)
+
+-- a publication: its number, its edits and cells, and how many items each session has given so far
+abbrev pub publish_line : ℕ → ℕ → ℕ → List ℕ → List ℕ
+publish_line number edits cells items =
+    codes "publish " ++ decimal number ++ codes " edits " ++ decimal edits ++ codes " cells " ++ decimal cells ++ codes " items" ++ spaced items ++ codes "\n"
+
+-- the end of a session: its number, its items, and the octets after its last whole message
+abbrev pub end_line : ℕ → ℕ → ℕ → List ℕ
+end_line session items rest = codes "end " ++ decimal session ++ codes " items " ++ decimal items ++ codes " rest " ++ decimal rest ++ codes "\n"
+
+-- the close of a run: the number of its last publication, and how many packets had a line
+abbrev pub done_line : ℕ → ℕ → List ℕ
+done_line publications packets = codes "done publications " ++ decimal publications ++ codes " packets " ++ decimal packets ++ codes "\n"
+
+-- whether the source address passes
+abbrev pub verdict_word : Bool → List ℕ
+verdict_word pass = if pass then codes "pass" else codes "drop"
+
+-- the check of one source against one session: its messages, its prefixes, and the octets after its last whole message
+abbrev pub check_one_line : Addr → Bool → ℕ → ℕ → ℕ → List ℕ
+check_one_line addr pass messages prefixes rest =
+    codes "check " ++ addr_text addr ++ codes " " ++ verdict_word pass ++ codes " messages " ++ decimal messages ++ codes " prefixes " ++ decimal prefixes ++ codes " rest " ++ decimal rest ++ codes "\n"

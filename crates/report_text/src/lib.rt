@@ -1,0 +1,13 @@
+//! The lines of output: numbers and addresses come in, and a line goes out in a buffer that was
+//! empty. Nothing here takes memory or can fail.
+#![tactic(auto)]
+
+mod checks;
+mod fields;
+mod runs;
+
+pub use checks::put_one;
+pub use runs::{put_done, put_end, put_mark, put_run};
+
+#[cfg(test)]
+mod tests;

@@ -6,7 +6,7 @@ use Rattle.urpf_base.specs.Address.{Block, Covers}
 use Rattle.urpf_base.specs.Lists.{Has, AreDistinct}
 use Rattle.urpf_base.specs.RouteUpdates.{RouteUpdate, HasRoute}
 use Rattle.ip_text.specs.Texts.{SpellsAddr}
-use Rattle.report_text.specs.Lines.{one_line}
+use Rattle.report_text.specs.Lines.{check_one_line}
 use Rattle.urpf_cli.specs.Session.{IsRead, IsFaultAt, IsStrangeAt, updates_of}
 use Rattle.urpf_cli.specs.declared.check_one.TheConstants.{STREAM_OCTETS}
 use Rattle.urpf_cli.specs.declared.status.Object.TheVariants.{Stream}
@@ -30,7 +30,7 @@ pub record IsCheckLine (stream : List ℕ) (source : Addr) (line : List ℕ) : T
   pub left : (p : Block) → Has prefixes p ↔ ((origin : Option ℕ) × HasRoute (updates_of said) p origin)
   pub passes : Bool
   pub verdict : IsTrue passes ↔ ((p : Block) × Has prefixes p × Covers p source)
-  pub text : line ≡ one_line source passes (length read.messages) (length prefixes) (length rest)
+  pub text : line ≡ check_one_line source passes (length read.messages) (length prefixes) (length rest)
 
 -- the stream is not too long, and this is what reading it comes to
 pub record Within (stream : List ℕ) (outcome : Type 0) : Type 0 where

@@ -1,1 +1,3 @@
+pub mod CheckOne
 pub mod Session
+pub mod StatusText

@@ -1,19 +1,28 @@
 -- What the stream of an established session says, and where it cannot be read (RFC 4271, sections 4 and 6).
-use Rattle.std.specs.Prelude.{◌≡◌, ℕ, ◌+◌, List, [], ◌∷◌, ◌++◌, length, drop, Option, Some, None, ◌↔◌}
-use Rattle.urpf_base.specs.Address.{Block}
-use Rattle.urpf_base.specs.RouteUpdates.{RouteUpdate, HasRoute}
-use Rattle.adj_rib.specs.Routes.{Routes, routes_at}
+use Rattle.std.specs.Prelude.{◌≡◌, ℕ, ◌+◌, List, [], ◌∷◌, ◌++◌, length, drop, Option, Some, None}
+use Rattle.urpf_base.specs.RouteUpdates.{RouteUpdate}
+use Rattle.adj_rib.specs.Routes.{Routes}
 use Rattle.bgp_wire.specs.Header.{type_field}
-use Rattle.bgp_wire.specs.Frames.{Frames, End}
-use Rattle.bgp_wire.specs.Frames.End.{Clean, Fault}
+use Rattle.bgp_wire.specs.Frames.{Frames, End, Clean, Fault}
 use Rattle.bgp_wire.specs.States.{kind_of}
+use Rattle.bgp_wire.specs.declared.kinds.MsgKind.{MsgKind}
 use Rattle.bgp_wire.specs.declared.kinds.MsgKind.TheVariants.{Update, Keepalive}
 use Rattle.bgp_update.specs.Plain.{IsPlain}
+use Rattle.control_core.specs.Table.{Applies, HoldsRoutes}
 
--- the message is a KEEPALIVE, which says nothing, or an UPDATE, which says this
+-- a message of this kind and body is a KEEPALIVE, which says nothing, or an UPDATE, which says this
+abbrev pub SaysBy : MsgKind → List ℕ → Option RouteUpdate → Type 0
+SaysBy kind body None = kind ≡ Keepalive
+SaysBy kind body (Some update) = (kind ≡ Update) × IsPlain body update
+
+-- the octets of a whole message say this
 abbrev pub Says : List ℕ → Option RouteUpdate → Type 0
-Says message None = kind_of (type_field message) ≡ Keepalive
-Says message (Some update) = (kind_of (type_field message) ≡ Update) × IsPlain (drop 19 message) update
+Says message said = SaysBy (kind_of (type_field message)) (drop 19 message) said
+
+-- what such a message changes in the table of routes: nothing, or what its UPDATE does
+abbrev pub Follows : Option RouteUpdate → Routes → Routes → Type 0
+Follows None old new = new ≡ old
+Follows (Some update) old new = Applies update old new
 
 -- the messages say this, each in its turn
 abbrev pub SayAll : List (List ℕ) → List (Option RouteUpdate) → Type 0
@@ -56,6 +65,11 @@ pub record IsStrangeAt (stream : List ℕ) (place : ℕ) : Type 0 where
   pub strange : (s : Option RouteUpdate) → Says message s → ⊥
   pub counted : place ≡ length before + 1
 
--- the table holds just the routes that the UPDATEs leave
-abbrev pub HoldsRoutes : List RouteUpdate → Routes → Type 0
-HoldsRoutes updates routes = (p : Block) (origin : Option ℕ) → (routes_at routes p ≡ Some origin) ↔ HasRoute updates p origin
+-- the stream is read, these are its whole messages and the octets after them, and the table has the routes that it leaves
+pub record Leaves (stream : List ℕ) (messages rest : ℕ) (routes : Routes) : Type 0 where
+  pub said : List (Option RouteUpdate)
+  pub octets : List ℕ
+  pub read : IsRead stream said octets
+  pub counted : messages ≡ length read.messages
+  pub left : rest ≡ length octets
+  pub held : HoldsRoutes (updates_of said) routes

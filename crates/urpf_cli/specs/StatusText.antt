@@ -1,4 +1,4 @@
--- The text of a status on standard error. Our own choice.
+-- The text of a status on standard error, and the number that the program ends with. Our own choice.
 use Rattle.std.specs.Prelude.{ℕ, List, [], ◌++◌, codes, decimal}
 use Rattle.urpf_cli.specs.declared.status.Object.{Object}
 use Rattle.urpf_cli.specs.declared.status.Object.TheVariants.{Stream}
@@ -9,17 +9,29 @@ use Rattle.urpf_cli.specs.declared.status.Status.TheVariants.{Done, Usage, TooLo
 abbrev pub object_text : Object → List ℕ
 object_text Stream = codes "stream"
 
--- a whole line, which says who speaks
-abbrev pub said_by_urpf : List ℕ → List ℕ
-said_by_urpf text = codes "urpf: " ++ text ++ codes "\n"
+-- what a status says; a run that is done says nothing
+abbrev pub status_text : Status → List ℕ
+status_text Done = []
+status_text Usage = codes "usage: check SESSION SOURCE | offline CONFIG BOOK PAIRS S... | live CONFIG BOOK PAIRS S... : P..."
+status_text (TooLong object) = object_text object ++ codes " too long"
+status_text (ReadFault object) = codes "read fault on " ++ object_text object
+status_text WriteFault = codes "write fault"
+status_text (BadSession code sub place) = codes "message " ++ decimal place ++ codes " fault " ++ decimal code ++ codes " " ++ decimal sub
+status_text (Unsupported place) = codes "message " ++ decimal place ++ codes " not supported"
+status_text OutOfMemory = codes "out of memory"
 
--- the line of each status; a run that is done says nothing
+-- the whole line, which says who speaks; nothing for a run that is done
 abbrev pub status_line : Status → List ℕ
 status_line Done = []
-status_line Usage = said_by_urpf (codes "usage: check SESSION SOURCE | offline CONFIG BOOK PAIRS S... | live CONFIG BOOK PAIRS S... : P...")
-status_line (TooLong object) = said_by_urpf (object_text object ++ codes " too long")
-status_line (ReadFault object) = said_by_urpf (codes "read fault on " ++ object_text object)
-status_line WriteFault = said_by_urpf (codes "write fault")
-status_line (BadSession code sub place) = said_by_urpf (codes "message " ++ decimal place ++ codes " fault " ++ decimal code ++ codes " " ++ decimal sub)
-status_line (Unsupported place) = said_by_urpf (codes "message " ++ decimal place ++ codes " not supported")
-status_line OutOfMemory = said_by_urpf (codes "out of memory")
+status_line status = codes "urpf: " ++ status_text status ++ codes "\n"
+
+-- the exit number of each status
+abbrev pub exit_of : Status → ℕ
+exit_of Done = 0
+exit_of Usage = 2
+exit_of (TooLong object) = 7
+exit_of (ReadFault object) = 8
+exit_of WriteFault = 9
+exit_of (BadSession code sub place) = 13
+exit_of (Unsupported place) = 14
+exit_of OutOfMemory = 16

@@ -2,6 +2,7 @@
 #![tactic(auto)]
 
 mod adapters;
+mod session;
 mod status;
 
 pub use adapters::{FileSource, OutSink};

@@ -1,0 +1,65 @@
+//! What a status says on standard error, and the number that the program ends with.
+ghost use Rattle.std.specs.Prelude.{◌≡◌, ◌+◌, ◌≤◌, [], ◌++◌, length};
+ghost use Rattle.urpf_cli.specs.StatusText.{exit_of, object_text, status_line, status_text};
+
+use crate::status::{Object, Status};
+use ip_text::put_number;
+use urpf_base::Line;
+
+/// How all commands are used, also those that do not exist yet.
+const USAGE: &[u8] = b"usage: check SESSION SOURCE | offline CONFIG BOOK PAIRS S... | live CONFIG BOOK PAIRS S... : P...";
+
+/// Writes the line of the status, which begins with `urpf: `. Done has none.
+pub fn put_status(status: &Status, to: &mut Line)
+    requires { to.old ≡ [] }
+    ensures { to.new ≡ status_line status.now }
+{
+    if *status == Status::Done {
+        return;
+    }
+    to.push(b"urpf: ");
+    put_text(status, to);
+    to.push(b"\n");
+}
+
+/// The number that the program ends with.
+pub fn exit_code(status: &Status) -> u8
+    ensures { result ≡ exit_of status.now }
+{
+    match status {
+        Status::Done => 0,
+        Status::Usage => 2,
+        Status::TooLong(_) => 7,
+        Status::ReadFault(_) => 8,
+        Status::WriteFault => 9,
+        Status::BadSession { .. } => 13,
+        Status::Unsupported { .. } => 14,
+        Status::OutOfMemory => 16,
+    }
+}
+
+fn put_text(status: &Status, to: &mut Line)
+    requires { length to.old + 1024 ≤ 8192 }
+    ensures text { to.new ≡ to.old ++ status_text status.now }
+    ensures short { length to.new ≤ length to.old + 512 }
+{
+    match status {
+        Status::Done => {}
+        Status::Usage => to.push(USAGE),
+        Status::TooLong(object) => {
+            put_object(*object, to);
+            to.push(b" too long");
+        }
+        Status::ReadFault(object) => {
+            to.push(b"read fault on ");
+            put_object(*object, to);
+        }
+        Status::WriteFault => to.push(b"write fault"),
+        Status::BadSession { code, sub, place } => put_bad_session(*code, *sub, *place, to),
+        Status::Unsupported { place } => {
+            put_message(*place, to);
+            to.push(b" not supported");
+        }
+        Status::OutOfMemory => to.push(b"out of memory"),
+    }
+}

@@ -1,0 +1,3 @@
+pub mod Filling
+pub mod Framings
+pub mod Headers

@@ -1,0 +1,131 @@
+//! What no clause says: headers made by hand, and one message that comes in every cut.
+use crate::{FrameState, Framer, MsgKind};
+
+/// An UPDATE that announces 198.51.100.0/24 with the path 64501 and the next hop 192.0.2.1.
+const UPDATE: [u8; 47] = [
+    // marker
+    0xFF, 0xFF, 0xFF, 0xFF, 0xFF, 0xFF, 0xFF, 0xFF, 0xFF, 0xFF, 0xFF, 0xFF, 0xFF, 0xFF, 0xFF, 0xFF,
+    // length 47, type UPDATE
+    0x00, 0x2F, 0x02,
+    // nothing withdrawn, 20 octets of attributes
+    0x00, 0x00, 0x00, 0x14,
+    // ORIGIN
+    0x40, 0x01, 0x01, 0x00,
+    // AS_PATH
+    0x40, 0x02, 0x06, 0x02, 0x01, 0x00, 0x00, 0xFB, 0xF5,
+    // NEXT_HOP
+    0x40, 0x03, 0x04, 0xC0, 0x00, 0x02, 0x01,
+    // NLRI
+    0x18, 0xC6, 0x33, 0x64,
+];
+
+/// A header whose marker begins with this octet and goes on with fifteen FF.
+fn header(first: u8, length: u16, code: u8) -> [u8; 19] {
+    let mut octets = [0xFF; 19];
+    let [high, low] = length.to_be_bytes();
+    octets[0] = first;
+    octets[16] = high;
+    octets[17] = low;
+    octets[18] = code;
+    octets
+}
+
+#[test]
+fn a_header_is_judged_by_its_first_fault(rt: HostRuntime) {
+    let rows = [
+        ("18 octets", header(0xFF, 18, 4), FrameState::Fault(2)),
+        ("4097 octets", header(0xFF, 4097, 2), FrameState::Fault(2)),
+        (
+            "4096 octets",
+            header(0xFF, 4096, 2),
+            FrameState::Partial(19),
+        ),
+        ("KEEPALIVE of 20", header(0xFF, 20, 4), FrameState::Fault(2)),
+        ("OPEN of 28", header(0xFF, 28, 1), FrameState::Fault(2)),
+        ("UPDATE of 22", header(0xFF, 22, 2), FrameState::Fault(2)),
+        (
+            "NOTIFICATION of 20",
+            header(0xFF, 20, 3),
+            FrameState::Fault(2),
+        ),
+        ("route refresh", header(0xFF, 23, 5), FrameState::Fault(3)),
+        ("type 0", header(0xFF, 19, 0), FrameState::Fault(3)),
+        ("marker FE", header(0xFE, 19, 4), FrameState::Fault(1)),
+        (
+            "marker FE, 18 octets",
+            header(0xFE, 18, 4),
+            FrameState::Fault(1),
+        ),
+        (
+            "18 octets, type 5",
+            header(0xFF, 18, 5),
+            FrameState::Fault(2),
+        ),
+        (
+            "KEEPALIVE",
+            header(0xFF, 19, 4),
+            FrameState::Whole(MsgKind::Keepalive),
+        ),
+    ];
+    for (name, octets, state) in rows {
+        let mut framer = Framer::new();
+        assert_eq!(rt; framer.push(&octets), 19, "{name}");
+        assert_eq!(rt; framer.state(), state, "{name}");
+    }
+}
+
+#[test]
+fn eighteen_octets_are_no_header(rt: HostRuntime) {
+    let mut framer = Framer::new();
+    assert_eq!(rt; framer.push(&[0xFF; 18]), 18);
+    assert_eq!(rt; framer.state(), FrameState::Partial(18));
+    framer.clear();
+    assert_eq!(rt; framer.state(), FrameState::Partial(0));
+}
+
+/// Takes the piece where more may come.
+fn push_more(framer: &mut Framer, piece: &[u8]) -> usize {
+    match framer.state() {
+        FrameState::Partial(_) => framer.push(piece),
+        _ => 0,
+    }
+}
+
+/// The kind and the body of a whole message.
+fn message(framer: &Framer) -> Option<(MsgKind, &[u8])> {
+    match framer.state() {
+        FrameState::Whole(kind) => Some((kind, framer.body())),
+        _ => None,
+    }
+}
+
+#[test]
+fn a_message_is_framed_alike_however_it_is_cut(rt: HostRuntime) {
+    let whole = Some((MsgKind::Update, &UPDATE[19..]));
+    for cut in 0..UPDATE.len() {
+        let mut framer = Framer::new();
+        assert_eq!(rt; push_more(&mut framer, &UPDATE[..cut]), cut);
+        assert_eq!(rt; framer.state(), FrameState::Partial(cut as u16));
+        assert_eq!(rt; push_more(&mut framer, &UPDATE[cut..]), UPDATE.len() - cut);
+        assert_eq!(rt; message(&framer), whole, "cut at {cut}");
+    }
+    let mut framer = Framer::new();
+    for octet in UPDATE {
+        assert_eq!(rt; push_more(&mut framer, &[octet]), 1);
+    }
+    assert_eq!(rt; message(&framer), whole, "octet by octet");
+}
+
+#[test]
+fn what_follows_a_message_is_left_for_the_next(rt: HostRuntime) {
+    let mut stream = [0; 66];
+    stream[..47].copy_from_slice(&UPDATE);
+    stream[47..].copy_from_slice(&header(0xFF, 19, 4));
+    let mut framer = Framer::new();
+    assert_eq!(rt; framer.push(&stream), 47);
+    if let FrameState::Whole(_) = framer.state() {
+        framer.next();
+    }
+    assert_eq!(rt; push_more(&mut framer, &stream[47..]), 19);
+    assert_eq!(rt; message(&framer), Some((MsgKind::Keepalive, [].as_slice())));
+}

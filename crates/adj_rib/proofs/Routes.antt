@@ -3,12 +3,12 @@ use Rattle.std.proofs.Common.{◌≡◌, ℕ, Bool, true, false, T, List, [], �
 use Rattle.std.specs.Option.{IsSome}
 use Rattle.std.specs.List.{filter}
 use Rattle.std.specs.declared.cmp.Ordering.TheVariants.{Less}
-use Rattle.std.specs.FinMap.{FinMap, entries, entries_sorted, get-entries, is_sorted, same_map}
+use Rattle.std.specs.FinMap.{entries_sorted, get-entries, is_sorted, same_map}
 use Rattle.urpf_base.specs.Address.{Block}
 use Rattle.urpf_base.specs.Lists.{Has, AreDistinct}
-use Rattle.adj_rib.specs.Order.{prefix_order, IsAscending}
+use Rattle.adj_rib.specs.Order.{prefix_order, is_after, IsAscending}
 use Rattle.adj_rib.specs.Routes.{Routes, routes_at, prefixes_of, pairs_of, pairs_after}
-use Rattle.adj_rib.proofs.Walk.{Pair, walk}
+use Rattle.adj_rib.proofs.Walk.{Pair, walk, first_has}
 use Rattle.adj_rib.proofs.Order.{prefix_total, prefix_ties}
 use Rattle.adj_rib.proofs.Sorted.{distinct, found, only_found, pair_found, only_pair, all_at, head_below, tail_sorted}
 
@@ -62,3 +62,10 @@ every (e ∷ es) = ap (λ l. e ∷ l) (every es)
 -- where no start is given, all pairs come after it
 pub pairs_after-none : (routes : Routes) → pairs_after None routes ≡ pairs_of routes
 pairs_after-none routes = every (pairs_of routes)
+
+-- the first of the pairs after a prefix is of the map, and comes after the prefix
+pub pairs_after-held : (start : Option Block) (routes : Routes) (r : Pair) (t : List Pair) → pairs_after start routes ≡ r ∷ t → routes_at routes r.0 ≡ Some r.1
+pairs_after-held start routes r t is = (has_pair routes r.0 r.1).0 (first_has start (pairs_of routes) r t is).0
+
+pub pairs_after-above : (start : Option Block) (routes : Routes) (r : Pair) (t : List Pair) → pairs_after start routes ≡ r ∷ t → is_after start r.0 ≡ true
+pairs_after-above start routes r t is = (first_has start (pairs_of routes) r t is).1

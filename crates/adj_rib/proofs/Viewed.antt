@@ -1,5 +1,5 @@
 -- The finite map as which a rib is seen has what its pairs have.
-use Rattle.std.proofs.Common.{◌≡◌, ℕ, Bool, true, false, ◌&&◌, cond, T, List, [], ◌∷◌, map, length, refl, sym, ap, subst, ◌∙◌, Option, Some, None}
+use Rattle.std.proofs.Common.{◌≡◌, ℕ, Bool, true, false, ◌&&◌, cond, T, List, [], map, length, refl, sym, ap, subst, ◌∙◌, Option, None}
 use Rattle.std.proofs.lemmas.List.{length-map}
 use Rattle.std.specs.Bool.{IsTrue}
 use Rattle.std.specs.List.{filter}

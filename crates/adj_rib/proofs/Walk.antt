@@ -1,12 +1,13 @@
 -- The pairs after a prefix: the first of them, and then the pairs after that one.
-use Rattle.std.proofs.Common.{◌≡◌, ℕ, Bool, true, false, cond, List, [], ◌∷◌, refl, sym, ap, subst, ◌∙◌, Option, Some, None}
+use Rattle.std.proofs.Common.{◌≡◌, ◌⊎◌, inl, inr, ℕ, Bool, true, false, cond, List, [], ◌∷◌, refl, sym, ap, subst, ◌∙◌, Option, Some, None}
 use Rattle.std.specs.declared.cmp.Ordering.{Ordering}
 use Rattle.std.specs.declared.cmp.Ordering.TheVariants.{Less, Equal, Greater}
 use Rattle.std.specs.Ordering.{is_lt, ordering_reverse}
-use Rattle.std.specs.Cmp.{IsTotalOrder, tied_itself}
+use Rattle.std.specs.Cmp.{tied_itself}
 use Rattle.std.specs.List.{AllByRecursion, filter}
 use Rattle.std.specs.FinMap.{is_sorted}
 use Rattle.urpf_base.specs.Address.{Block}
+use Rattle.urpf_base.specs.Lists.{Has}
 use Rattle.adj_rib.specs.Order.{prefix_order, is_after}
 use Rattle.adj_rib.proofs.Order.{prefix_total}
 use Rattle.adj_rib.proofs.Sorted.{head_below, tail_sorted, filter_all}
@@ -30,6 +31,15 @@ after_later (Some p) x y h before = ap is_lt (prefix_total.trans p x y (is_less 
 all_after : (start : Option Block) (x : Block) (es : List Pair) → is_after start x ≡ true → AllByRecursion (λ e. prefix_order x e.0 ≡ Less) es → after_in start es ≡ es
 all_after start x [] h below = refl
 all_after start x (e ∷ es) h below = rw (after_later start x e.0 h below.0) (ap (λ t. e ∷ t) (all_after start x es h below.1))
+
+-- the first of what comes after the start is of the list, and comes after the start
+pub first_has : (start : Option Block) (es : List Pair) (r : Pair) (t : List Pair) → after_in start es ≡ r ∷ t → Has es r × (is_after start r.0 ≡ true)
+first_has start [] r t is = cc
+first_has start (e ∷ es) r t is = by (is_after start e.0) refl is (first_has start es r t)
+  where
+    by : (b : Bool) → is_after start e.0 ≡ b → cond b (e ∷ after_in start es) (after_in start es) ≡ r ∷ t → (after_in start es ≡ r ∷ t → Has es r × (is_after start r.0 ≡ true)) → ((r ≡ e) ⊎ Has es r) × (is_after start r.0 ≡ true)
+    by true at is later = let same : e ≡ r = cc in (inl (sym same), subst (λ (s : Pair). is_after start s.0 ≡ true) same at)
+    by false at is later = let more : Has es r × (is_after start r.0 ≡ true) = later is in (inr more.0, more.1)
 
 first_of : (start : Option Block) (P : Pair → Type 0) (es : List Pair) (r : Pair) (t : List Pair) → AllByRecursion P es → after_in start es ≡ r ∷ t → P r
 first_of start P [] r t h is = cc

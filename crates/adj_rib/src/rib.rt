@@ -1,9 +1,9 @@
 //! The routes of one session, by prefix.
 ghost use Rattle.std.specs.Prelude.{◌≡◌, ◌↔◌, [], ◌∷◌, length, IsTrue, IfSome, IfNone, IfOk, OnOk, OnErr, Some, None, option_copied};
+ghost use Rattle.std.specs.BTreeMap.Range.{is_from_start};
 ghost use Rattle.urpf_base.specs.Address.{Block, Covers};
 ghost use Rattle.urpf_base.specs.Lists.{Has};
 ghost use Rattle.adj_rib.specs.Order.{is_after, prefix_order};
-ghost use Rattle.std.specs.BTreeMap.Range.{is_from_start};
 ghost use Rattle.adj_rib.specs.Routes.{ChangesAt, pairs_after, prefixes_of, routes_at};
 
 use std::alloc::Global;
@@ -90,6 +90,8 @@ impl AdjRib {
     /// The first pair whose prefix comes after the given one, or the first of all where none is
     /// given. The given prefix need not be there. None where no such pair is left.
     pub fn after(&self, prefix: Option<&Prefix>) -> Option<(Prefix, Origin)>
+        ensures held { IfSome result (λ r. routes_at self.now r.0 ≡ Some r.1) }
+        ensures above { IfSome result (λ r. IsTrue (is_after (option_copied prefix.entry) r.0)) }
         ensures first { IfSome result (λ r. pairs_after (option_copied prefix.entry) self.now
             ≡ r ∷ pairs_after (Some r.0) self.now) }
         ensures end { IfNone result (pairs_after (option_copied prefix.entry) self.now ≡ []) }
@@ -116,7 +118,8 @@ impl AdjRib {
 
 /// Where the keys after the prefix start, or all keys where none is given.
 fn start_of(prefix: Option<&Prefix>) -> Bound<Prefix>
-    ensures { (p : Block) → is_from_start prefix_order result p ≡ is_after (option_copied prefix.entry) p }
+    ensures { (p : Block)
+        → is_from_start prefix_order result p ≡ is_after (option_copied prefix.entry) p }
 {
     match prefix {
         Some(prefix) => Bound::Excluded(*prefix),

@@ -1,4 +1,3 @@
-use Rattle.std.proofs.Common.{◌≡◌}
 use Rattle.urpf_base.specs.Address.{Block, Covers}
 use Rattle.urpf_base.specs.Lists.{Has}
 use Rattle.adj_rib.specs.Routes.{prefixes_of}

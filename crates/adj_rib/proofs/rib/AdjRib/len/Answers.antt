@@ -1,4 +1,4 @@
-use Rattle.std.proofs.Common.{◌≡◌, sym, ◌∙◌, ap, length}
+use Rattle.std.proofs.Common.{sym, ◌∙◌, ap, length}
 use Rattle.adj_rib.specs.Routes.{prefixes_of}
 use Rattle.adj_rib.proofs.Viewed.{length-seen}
 use Rattle.adj_rib.proofs.rib.AdjRib.len.Goals as goal

@@ -74,7 +74,7 @@ held_next ss (Some u) old new held follows =
 concat-between : (before after : List (List ℕ)) (m rest : List ℕ) → concat (before ++ m ∷ after) ++ rest ≡ concat before ++ (m ++ (concat after ++ rest))
 concat-between before after m rest =
     ap (λ t. t ++ rest) (concat-append before (m ∷ after)) ∙ append_assoc (concat before) (m ++ concat after) rest
-        ∙ ap (λ t. concat before ++ t) (append_assoc m (concat after) rest)
+    ∙ ap (λ t. concat before ++ t) (append_assoc m (concat after) rest)
 
 -- one more message is read
 pub progress_more : (stream rest : List ℕ) (count messages : ℕ) (old new : Routes) (s : Option RouteUpdate) → Progress stream rest messages old → IsMessage (take count rest) → Says (take count rest) s → Follows s old new → Progress stream (drop count rest) (messages + 1) new

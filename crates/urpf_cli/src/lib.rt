@@ -2,8 +2,13 @@
 #![tactic(auto)]
 
 mod adapters;
+mod check;
 mod session;
 mod status;
+mod status_text;
+mod words;
 
 pub use adapters::{FileSource, OutSink};
+pub use check::{STREAM_OCTETS, check_one};
 pub use status::{Object, Status};
+pub use status_text::{exit_code, put_status};

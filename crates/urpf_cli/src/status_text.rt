@@ -1,5 +1,5 @@
 //! What a status says on standard error, and the number that the program ends with.
-ghost use Rattle.std.specs.Prelude.{◌≡◌, ◌+◌, ◌≤◌, [], ◌++◌, length};
+ghost use Rattle.std.specs.Prelude.{◌≡◌, ◌+◌, ◌≤◌, [], ◌++◌, length, codes, decimal};
 ghost use Rattle.urpf_cli.specs.StatusText.{exit_of, object_text, status_line, status_text};
 
 use crate::status::{Object, Status};
@@ -7,7 +7,8 @@ use ip_text::put_number;
 use urpf_base::Line;
 
 /// How all commands are used, also those that do not exist yet.
-const USAGE: &[u8] = b"usage: check SESSION SOURCE | offline CONFIG BOOK PAIRS S... | live CONFIG BOOK PAIRS S... : P...";
+const USAGE: &[u8] =
+    b"usage: check SESSION SOURCE | offline CONFIG BOOK PAIRS S... | live CONFIG BOOK PAIRS S... : P...";
 
 /// Writes the line of the status, which begins with `urpf: `. Done has none.
 pub fn put_status(status: &Status, to: &mut Line)
@@ -56,10 +57,48 @@ fn put_text(status: &Status, to: &mut Line)
         }
         Status::WriteFault => to.push(b"write fault"),
         Status::BadSession { code, sub, place } => put_bad_session(*code, *sub, *place, to),
-        Status::Unsupported { place } => {
-            put_message(*place, to);
-            to.push(b" not supported");
-        }
+        Status::Unsupported { place } => put_unsupported(*place, to),
         Status::OutOfMemory => to.push(b"out of memory"),
     }
+}
+
+fn put_object(object: Object, to: &mut Line)
+    requires { length to.old + 64 ≤ 8192 }
+    ensures text { to.new ≡ to.old ++ object_text object }
+    ensures short { length to.new ≤ length to.old + 32 }
+{
+    match object {
+        Object::Stream => to.push(b"stream"),
+    }
+}
+
+/// Appends the message that is named by its place.
+fn put_message(place: u64, to: &mut Line)
+    requires { length to.old + 128 ≤ 8192 }
+    ensures text { to.new ≡ to.old ++ codes "message " ++ decimal place }
+    ensures short { length to.new ≤ length to.old + 32 }
+{
+    to.push(b"message ");
+    put_number(place, to);
+}
+
+fn put_bad_session(code: u8, sub: u8, place: u64, to: &mut Line)
+    requires { length to.old + 512 ≤ 8192 }
+    ensures text { to.new ≡ to.old ++ status_text (Status.BadSession code sub place) }
+    ensures short { length to.new ≤ length to.old + 128 }
+{
+    put_message(place, to);
+    to.push(b" fault ");
+    put_number(u64::from(code), to);
+    to.push(b" ");
+    put_number(u64::from(sub), to);
+}
+
+fn put_unsupported(place: u64, to: &mut Line)
+    requires { length to.old + 512 ≤ 8192 }
+    ensures text { to.new ≡ to.old ++ status_text (Status.Unsupported place) }
+    ensures short { length to.new ≤ length to.old + 128 }
+{
+    put_message(place, to);
+    to.push(b" not supported");
 }

@@ -36,8 +36,8 @@ returns-in-Err-clause-strange c = λ place is.
     let fault : c.in-Err.fault ≡ SessionFault.Strange place = cc in
     let refused = ap (λ f. Err f) fault in
     rw (c.in-Err.ensures.place place refused)
-        (stopped_by_strange c.args.stream.now rest count c.loop-held.messages c.loop-held.rib c.loop-held.invariant.progress (rw now at state.0)
-            (λ s says. c.in-Err.ensures.strange place refused s (says_by (take count rest) c.body.result.now c.in-Whole.kind s (rw now at state.1) (rw now at c.body.ensures) says)))
+    (stopped_by_strange c.args.stream.now rest count c.loop-held.messages c.loop-held.rib c.loop-held.invariant.progress (rw now at state.0)
+    (λ s says. c.in-Err.ensures.strange place refused s (says_by (take count rest) c.body.result.now c.in-Whole.kind s (rw now at state.1) (rw now at c.body.ensures) says)))
 
 pub loop-held-preserved : goal.loop-held-preserved
 loop-held-preserved c =
@@ -50,7 +50,7 @@ loop-held-preserved c =
     record {
       empty = c.next.ensures;
       progress = rw c.split_at.ensures.back
-        (progress_more c.args.stream.now rest count c.loop-held.messages c.loop-held.rib c.take_message.new.rib ok.0 c.loop-held.invariant.progress whole
-            (says_so (take count rest) c.body.result.now c.in-Whole.kind ok.0 (rw now at state.1) (rw now at c.body.ensures) ok.1) ok.2);
+          (progress_more c.args.stream.now rest count c.loop-held.messages c.loop-held.rib c.take_message.new.rib ok.0 c.loop-held.invariant.progress whole
+          (says_so (take count rest) c.body.result.now c.in-Whole.kind ok.0 (rw now at state.1) (rw now at c.body.ensures) ok.1) ok.2);
       room = omega (arith, c.loop-held.invariant.room, c.split_at.ensures.back_len, whole.header, length-take count rest);
     }

@@ -1,0 +1,121 @@
+//! `check SESSION SOURCE`: whether the routes that a recorded session leaves admit a source.
+ghost use Rattle.std.specs.Prelude.{◌≡◌, ◌↔◌, ◌<◌, ◌≤◌, ◌⊎◌, [], ℕ, length, take, IfErr, IfSome, IsSomeAnd, OnOk, map, string_bytes};
+ghost use Rattle.std.specs.Io.KnownBytes.{Appends};
+ghost use Rattle.urpf_base.specs.Faults.{Rose};
+ghost use Rattle.urpf_cli.specs.declared.status.Status.{Status};
+ghost use Rattle.urpf_cli.specs.CheckOne.{Deserves, FitNoForm, IsCheckLine, IsQuiet, IsRefused, Within, status_of_fault, WritesFront, WritesLine};
+ghost use Rattle.urpf_cli.specs.Session.{IsFaultAt, IsStrangeAt};
+
+use crate::session::{SessionFault, read_session};
+use crate::status::{Object, Status};
+use crate::words::check_source;
+use adj_rib::AdjRib;
+use report_text::put_one;
+use std::alloc::Global;
+use urpf_base::{Addr, Failed, Line, Sink, Source, TextFault, read_text, write_all};
+
+/// The most octets of a stream.
+pub const STREAM_OCTETS: usize = 16_777_216;
+
+/// Judges the address SOURCE over the whole stream of one session that is already established, with
+/// four-octet AS numbers, and writes one line. The words are those after the program's name.
+///
+/// The answers come in this order: the words, the read of the stream or its length, the first
+/// message that cannot be read, the write.
+pub fn check_one<S: Source, K: Sink>(
+    alloc: Global,
+    words: &[String],
+    session: &mut S,
+    out: &mut K,
+) -> Status
+    // When each answer comes.
+    ensures usage { result ≡ Status.Usage ↔ FitNoForm (map string_bytes words.now) }
+    ensures read_fault { result ≡ Status.ReadFault Object.Stream
+        → Rose (S.faults session.old) (S.faults session.new) }
+    ensures write_fault { result ≡ Status.WriteFault
+        → Rose (K.faults out.old) (K.faults out.new) }
+    ensures too_long { result ≡ Status.TooLong Object.Stream
+        → IfSome (S.left session.old) (λ stream. STREAM_OCTETS < length stream) }
+    ensures bad_session { (code sub place : ℕ) → result ≡ Status.BadSession code sub place
+        → IfSome (S.left session.old) (λ stream. Within stream ((code ≡ 1) × IsFaultAt stream sub place)) }
+    ensures unsupported { (place : ℕ) → result ≡ Status.Unsupported place
+        → IfSome (S.left session.old) (λ stream. Within stream (IsStrangeAt stream place)) }
+
+    // Where nothing fails, the answer is the one that the words and the stream deserve.
+    ensures exact { (status : Status)
+        → IsSomeAnd (S.left session.old) (λ stream. Deserves (map string_bytes words.now) stream status)
+        → ¬ Rose (S.faults session.old) (S.faults session.new)
+        → ¬ Rose (K.faults out.old) (K.faults out.new)
+        → (result ≡ status) ⊎ (result ≡ Status.OutOfMemory) }
+
+    // What the sink took.
+    ensures done { result ≡ Status.Done → IfSome (S.left session.old)
+        (λ stream. WritesLine (map string_bytes words.now) stream (K.held out.old) (K.held out.new)) }
+    ensures cut_short { result ≡ Status.WriteFault → IfSome (S.left session.old)
+        (λ stream. WritesFront (map string_bytes words.now) stream (K.held out.old) (K.held out.new)) }
+    ensures quiet { IsQuiet result → out.new ≡ out.old }
+{
+    let Some(source) = check_source(words) else {
+        return Status::Usage;
+    };
+    let stream = match read_text(alloc, session, STREAM_OCTETS) {
+        Ok(stream) => stream,
+        Err(TextFault::Failed) => return Status::ReadFault(Object::Stream),
+        Err(TextFault::TooLong) => return Status::TooLong(Object::Stream),
+        Err(TextFault::OutOfMemory) => return Status::OutOfMemory,
+    };
+    let mut line = Line::new();
+    match judge(alloc, &stream, &source, &mut line) {
+        Ok(()) => write_line(out, &line),
+        Err(status) => status,
+    }
+}
+
+/// Message Header Error (RFC 4271, section 4.5).
+const MESSAGE_HEADER_ERROR: u8 = 1;
+
+/// Writes the line for the source into the empty line, or says why the stream cannot be read.
+fn judge(alloc: Global, stream: &[u8], source: &Addr, line: &mut Line) -> Result<(), Status>
+    requires { line.old ≡ [] }
+    ensures ok { OnOk result (IsCheckLine stream.now source.now line.new) }
+    ensures err { IfErr result (IsRefused stream.now) }
+{
+    let mut rib = AdjRib::new(alloc);
+    let counts = match read_session(stream, &mut rib) {
+        Ok(counts) => counts,
+        Err(fault) => return Err(status_of(fault)),
+    };
+    let passes = rib.any_covers(source);
+    let prefixes = rib.len() as u64;
+    put_one(source, passes, counts.messages, prefixes, counts.rest, line);
+    Ok(())
+}
+
+/// The status of a stream that cannot be read.
+fn status_of(fault: SessionFault) -> Status
+    ensures { result ≡ status_of_fault fault }
+{
+    match fault {
+        SessionFault::Header { sub, place } => Status::BadSession {
+            code: MESSAGE_HEADER_ERROR,
+            sub,
+            place,
+        },
+        SessionFault::Strange { place } => Status::Unsupported { place },
+        SessionFault::OutOfMemory => Status::OutOfMemory,
+    }
+}
+
+/// Offers the line to the sink.
+fn write_line<K: Sink>(out: &mut K, line: &Line) -> Status
+    ensures either { (result ≡ Status.Done) ⊎ (result ≡ Status.WriteFault) }
+    ensures done { result ≡ Status.Done → Appends (K.held out.old) (K.held out.new) line.now }
+    ensures cut_short { result ≡ Status.WriteFault → (n : ℕ) × (n ≤ length line.now)
+        × Appends (K.held out.old) (K.held out.new) (take n line.now) }
+    ensures cause { result ≡ Status.WriteFault → Rose (K.faults out.old) (K.faults out.new) }
+{
+    match write_all(out, line.bytes()) {
+        Ok(()) => Status::Done,
+        Err(Failed) => Status::WriteFault,
+    }
+}

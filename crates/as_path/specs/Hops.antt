@@ -1,5 +1,5 @@
 -- The hops of a path, the path that AS_PATH and AS4_PATH make together, and its origin (RFC 4271, section 9.1.2.2, a; RFC 6793, section 4.2.3; RFC 6811, section 2).
-use Rattle.std.specs.Prelude.{ℕ, ◌-◌, Bool, true, false, ◌||◌, ◌==◌, not, nat_lt, if◌then◌else◌, List, [], ◌∷◌, ◌++◌, length, map, take, Option, Some, None}
+use Rattle.std.specs.Prelude.{ℕ, ◌-◌, Bool, false, ◌||◌, ◌==◌, not, nat_lt, if◌then◌else◌, List, [], ◌∷◌, ◌++◌, length, map, take, Option, Some, None}
 use Rattle.as_path.specs.declared.merge.Aggregators.{Aggregators}
 use Rattle.as_path.specs.Path.{Segment, as_set, as_sequence}
 

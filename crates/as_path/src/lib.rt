@@ -3,7 +3,13 @@
 #![tactic(auto)]
 
 mod merge;
+mod paths;
+mod segments;
 mod widths;
 
-pub use merge::Aggregators;
+pub use merge::{Aggregators, origin_of};
+pub use paths::PathView;
 pub use widths::Width;
+
+#[cfg(test)]
+mod tests;

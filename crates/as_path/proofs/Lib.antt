@@ -1,0 +1,4 @@
+pub mod Alike
+pub mod HopLaws
+pub mod NumberLaws
+pub mod PathLaws

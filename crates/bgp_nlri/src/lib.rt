@@ -3,7 +3,6 @@
 #![tactic(auto)]
 
 mod family;
-<<<<<<< HEAD
 mod fields;
 mod spelling;
 
@@ -12,7 +11,3 @@ pub use fields::{Prefixes, check};
 
 #[cfg(test)]
 mod tests;
-=======
-
-pub use family::Family;
->>>>>>> 5c26e35 (bgp_nlri: say when a field is prefixes, and which)

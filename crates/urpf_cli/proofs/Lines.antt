@@ -1,0 +1,55 @@
+-- The line of a check out of a table of routes, and words out of their places.
+use Rattle.std.proofs.Common.{◌≡◌, ◌<◌, ℕ, ◌+◌, ◌≤◌, List, [], ◌∷◌, ◌++◌, length, get_or, Bool, true, false, Option, Some, None, ap, sym, ◌∙◌, arith, refl, append_assoc}
+use Rattle.std.specs.Prelude.{not}
+use Rattle.std.specs.Str.{bytes_eq}
+use Rattle.std.proofs.lemmas.Slice.Eq.{bytes_eq-Decides}
+use Rattle.std.specs.Prelude.{◌↔◌, IsSome}
+use Rattle.urpf_base.specs.declared.address.Addr.{Addr}
+use Rattle.urpf_base.specs.Address.{Block}
+use Rattle.urpf_base.specs.Lists.{Has}
+use Rattle.urpf_base.specs.RouteUpdates.{RouteUpdate, HasRoute}
+use Rattle.adj_rib.specs.Routes.{Routes, routes_at, prefixes_of}
+use Rattle.adj_rib.proofs.Routes.{has_held}
+use Rattle.control_core.specs.Table.{HoldsRoutes}
+use Rattle.report_text.specs.Lines.{check_one_line}
+use Rattle.urpf_cli.specs.Session.{updates_of}
+
+some_value : (o : Option (Option ℕ)) → IsSome o → (v : Option ℕ) × (o ≡ Some v)
+some_value None is = cc
+some_value (Some v) is = (v, refl)
+
+is_some_from : (o : Option (Option ℕ)) (v : Option ℕ) → o ≡ Some v → IsSome o
+is_some_from None v is = cc
+is_some_from (Some w) v is = refl
+
+-- the prefixes of the table are those that the UPDATEs leave
+pub has_left : (said : List (Option RouteUpdate)) (routes : Routes) → HoldsRoutes (updates_of said) routes → (p : Block) → Has (prefixes_of routes) p ↔ ((origin : Option ℕ) × HasRoute (updates_of said) p origin)
+has_left said routes held p =
+    ( λ has. let found = some_value (routes_at routes p) ((has_held routes p).0 has) in (found.0, (held p found.0).0 found.1)
+    , λ left. (has_held routes p).1 (is_some_from (routes_at routes p) left.0 ((held p left.0).1 left.1)))
+
+-- equal numbers make an equal line
+pub line_of : (source : Addr) (passes : Bool) (messages m prefixes p rest r : ℕ) (line : List ℕ) → messages ≡ m → prefixes ≡ p → rest ≡ r → line ≡ check_one_line source passes messages prefixes rest → line ≡ check_one_line source passes m p r
+line_of source passes messages m prefixes p rest r line is_m is_p is_r is =
+    is ∙ ap (λ n. check_one_line source passes n prefixes rest) is_m ∙ ap (λ n. check_one_line source passes m n rest) is_p
+        ∙ ap (λ n. check_one_line source passes m p n) is_r
+
+-- a list of three items is its items
+pub three_items : {X : Type 0} (xs : List X) (a b c : X) → 3 ≤ length xs → length xs < 4 → a ≡ get_or xs 0 a → b ≡ get_or xs 1 b → c ≡ get_or xs 2 c → xs ≡ a ∷ b ∷ c ∷ []
+three_items [] a b c some few is_a is_b is_c = absurd (omega arith)
+three_items (x ∷ []) a b c some few is_a is_b is_c = absurd (omega arith)
+three_items (x ∷ y ∷ []) a b c some few is_a is_b is_c = absurd (omega arith)
+three_items (x ∷ y ∷ z ∷ []) a b c some few is_a is_b is_c = cc
+three_items (x ∷ y ∷ z ∷ w ∷ more) a b c some few is_a is_b is_c = absurd (omega arith)
+
+-- pieces that were appended one by one
+pub pushed_thrice : (old a b c : List ℕ) → ((old ++ a) ++ b) ++ c ≡ old ++ ((a ++ b) ++ c)
+pushed_thrice old a b c = simp append_assoc
+
+-- a text that is not unequal is equal
+pub not_unequal : (xs ys : List ℕ) → false ≡ not (bytes_eq xs ys) → xs ≡ ys
+not_unequal xs ys told = (bytes_eq-Decides xs ys).0 (true_from (bytes_eq xs ys) told)
+  where
+    true_from : (b : Bool) → false ≡ not b → b ≡ true
+    true_from true e = refl
+    true_from false e = e

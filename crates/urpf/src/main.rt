@@ -1,0 +1,55 @@
+//! The program: makes the adapters over files and standard output, calls the command that the words
+//! name, and ends with its status.
+#![tactic(auto)]
+
+use std::io::Write;
+use std::process::ExitCode;
+use std::rt::{Env, Files};
+use std::{env, io};
+use urpf_base::{Line, write_all};
+use urpf_cli::{FileSource, OutSink, Status, check_one, exit_code, put_status};
+
+fn main(rt: HostRuntime) -> ExitCode {
+    let status = run(&rt);
+    tell(rt.stderr(), &status);
+    ExitCode::from(exit_code(&status))
+}
+
+/// Runs the command.
+fn run<R: AllocGlobal + Env + Files + Print>(rt: &R) -> Status {
+    let words = match words(rt) {
+        Ok(words) => words,
+        Err(status) => return status,
+    };
+    let session = match words.get(1) {
+        Some(session) => session.as_str(),
+        None => "",
+    };
+    let mut session = FileSource::new(rt, session);
+    let mut out = OutSink::new(io::writer(rt));
+    check_one(rt.alloc(), &words, &mut session, &mut out)
+}
+
+/// The words after the program's name. Words that are no UTF-8 fit no form of a command.
+fn words<R: AllocGlobal + Env>(rt: &R) -> Result<Vec<String>, Status> {
+    let mut words = Vec::new(rt.alloc());
+    match env::args(rt) {
+        Ok(args) => {
+            for word in args.skip(1) {
+                if words.push(word).is_err() {
+                    return Err(Status::OutOfMemory);
+                }
+            }
+            Ok(words)
+        }
+        Err(error) if error.kind() == io::ErrorKind::OutOfMemory => Err(Status::OutOfMemory),
+        Err(_) => Err(Status::Usage),
+    }
+}
+
+/// Writes what the status says to standard error. Nobody is left to tell where that fails.
+fn tell<W: Write + Drop>(errors: W, status: &Status) {
+    let mut line = Line::new();
+    put_status(status, &mut line);
+    let _ = write_all(&mut OutSink::new(errors), line.bytes());
+}

@@ -172,8 +172,9 @@ refused_fate stream OutOfMemory within refused = inr refl
 pub refused_alone : (words : List (List ℕ)) (left : Option (List ℕ)) (stream : List ℕ) (source : Addr) (r s : Status) → IfSome left (λ all. stream ≡ all) → length stream ≤ STREAM_OCTETS → AreWords words source → IsRefused stream r → IsSomeAnd left (λ t. Deserves words t s) → (r ≡ s) ⊎ (r ≡ OutOfMemory)
 refused_alone words left stream source r s whole within fit refused deserved =
     elim (refused_fate stream r within refused) [
-      inl fate ↦ inl (fate_alone words left stream source r s whole fit fate deserved)
-      | inr memory ↦ inr memory ]
+      | inl fate ↦ inl (fate_alone words left stream source r s whole fit fate deserved)
+      | inr memory ↦ inr memory
+    ]
 
 -- a stream that has a line is read
 pub line_fate : (stream : List ℕ) (source : Addr) (line : List ℕ) → length stream ≤ STREAM_OCTETS → IsCheckLine stream source line → Fate stream Done

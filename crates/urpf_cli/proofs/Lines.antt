@@ -24,15 +24,16 @@ is_some_from (Some w) v is = refl
 
 -- the prefixes of the table are those that the UPDATEs leave
 pub has_left : (said : List (Option RouteUpdate)) (routes : Routes) → HoldsRoutes (updates_of said) routes → (p : Block) → Has (prefixes_of routes) p ↔ ((origin : Option ℕ) × HasRoute (updates_of said) p origin)
-has_left said routes held p =
-    ( λ has. let found = some_value (routes_at routes p) ((has_held routes p).0 has) in (found.0, (held p found.0).0 found.1)
-    , λ left. (has_held routes p).1 (is_some_from (routes_at routes p) left.0 ((held p left.0).1 left.1)))
+has_left said routes held p = (
+  λ has. let found = some_value (routes_at routes p) ((has_held routes p).0 has) in (found.0, (held p found.0).0 found.1),
+  λ left. (has_held routes p).1 (is_some_from (routes_at routes p) left.0 ((held p left.0).1 left.1)),
+)
 
 -- equal numbers make an equal line
 pub line_of : (source : Addr) (passes : Bool) (messages m prefixes p rest r : ℕ) (line : List ℕ) → messages ≡ m → prefixes ≡ p → rest ≡ r → line ≡ check_one_line source passes messages prefixes rest → line ≡ check_one_line source passes m p r
 line_of source passes messages m prefixes p rest r line is_m is_p is_r is =
     is ∙ ap (λ n. check_one_line source passes n prefixes rest) is_m ∙ ap (λ n. check_one_line source passes m n rest) is_p
-        ∙ ap (λ n. check_one_line source passes m p n) is_r
+    ∙ ap (λ n. check_one_line source passes m p n) is_r
 
 -- a list of three items is its items
 pub three_items : {X : Type 0} (xs : List X) (a b c : X) → 3 ≤ length xs → length xs < 4 → a ≡ get_or xs 0 a → b ≡ get_or xs 1 b → c ≡ get_or xs 2 c → xs ≡ a ∷ b ∷ c ∷ []

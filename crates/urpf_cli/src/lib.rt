@@ -12,3 +12,6 @@ pub use adapters::{FileSource, OutSink};
 pub use check::{STREAM_OCTETS, check_one};
 pub use status::{Object, Status};
 pub use status_text::{exit_code, put_status};
+
+#[cfg(test)]
+mod tests;

@@ -14,8 +14,9 @@ returns-in_default-clause-exact g c = λ status deserved read written.
 pub returns-in-Ok-judge-clause-exact : goal.returns-in-Ok-judge-clause-exact
 returns-in-Ok-judge-clause-exact g c = λ status deserved read written.
     elim c.write_line.ensures.either [
-      inl done ↦ inl (rw done (fate_alone (map string_bytes c.args.words.now) (g.S.Source.left c.args.session.now) c.in-Ok.stream.items c.in-Some.source Done status c.in-Ok.ensures.whole c.in-Some.ensures.found (line_fate c.in-Ok.stream.items c.in-Some.source c.judge.new.line (omega (arith, c.in-Ok.stream.ok.0, c.in-Ok.ensures.within)) (rw c.deref.ensures.value at c.in-Ok-judge.ensures.ok)) deserved))
-      | inr fault ↦ absurd (written (c.write_line.ensures.cause fault)) ]
+      | inl done ↦ inl (rw done (fate_alone (map string_bytes c.args.words.now) (g.S.Source.left c.args.session.now) c.in-Ok.stream.items c.in-Some.source Done status c.in-Ok.ensures.whole c.in-Some.ensures.found (line_fate c.in-Ok.stream.items c.in-Some.source c.judge.new.line (omega (arith, c.in-Ok.stream.ok.0, c.in-Ok.ensures.within)) (rw c.deref.ensures.value at c.in-Ok-judge.ensures.ok)) deserved))
+      | inr fault ↦ absurd (written (c.write_line.ensures.cause fault))
+    ]
 
 pub returns-in-Ok-judge-clause-cut_short : goal.returns-in-Ok-judge-clause-cut_short
 returns-in-Ok-judge-clause-cut_short g c = λ fault.

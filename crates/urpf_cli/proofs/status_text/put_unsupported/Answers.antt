@@ -6,4 +6,4 @@ use Rattle.urpf_cli.proofs.status_text.put_unsupported.Goals as goal
 pub returns-clause-text : goal.returns-clause-text
 returns-clause-text c =
     c.push.ensures ∙ ap (λ t. t ++ codes " not supported") c.put_message.ensures.text
-        ∙ pushed_thrice c.args.to.now (codes "message ") (decimal c.args.place) (codes " not supported")
+    ∙ pushed_thrice c.args.to.now (codes "message ") (decimal c.args.place) (codes " not supported")

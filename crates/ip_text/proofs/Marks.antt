@@ -22,7 +22,7 @@ position_marked mark front rest lacks =
     let inside : length front < length (front ++ mark ∷ rest) = omega (arith, length-append front (mark ∷ rest)) in
     grind (arith, nat_tests, place, inside)
 
-rest_whole : (text : List ℕ) (i : ℕ) → take (length text - i) (drop i text) ≡ drop i text
+pub rest_whole : (text : List ℕ) (i : ℕ) → take (length text - i) (drop i text) ≡ drop i text
 rest_whole text i = between_to_end text i (length text) (omega arith)
 
 pub cut_found : (mark place : ℕ) (text : List ℕ) → Some place ≡ position (λ b. b == mark) text → text ≡ take place text ++ (mark ∷ take (length text - (place + 1)) (drop (place + 1) text))

@@ -1,2 +1,4 @@
+pub mod Groups
 pub mod Numbers
+pub mod Sides
 pub mod Texts

@@ -1,8 +1,10 @@
 -- The texts of addresses, as they are read and printed.
-use Rattle.std.specs.Prelude.{◌≡◌, ℕ, ◌/◌, ◌%◌, ◌^◌, ◌<◌, ◌*◌, List, [], ◌∷◌, map, decimal}
+use Rattle.std.specs.Prelude.{◌≡◌, ℕ, ◌/◌, ◌%◌, ◌^◌, ◌<◌, ◌*◌, List, [], ◌∷◌, length, map, decimal, ◌⊎◌}
 use Rattle.std.specs.Char.{digit_char}
 use Rattle.std.specs.Int.{w32, to_be_bytes}
+use Rattle.std.specs.Int.Digits.{number_from_digits}
 use Rattle.std.specs.List.{join_with_byte}
+use Rattle.ip_text.specs.Groups.{IsGroups, IsShortened}
 use Rattle.urpf_base.specs.declared.address.Addr.{Addr}
 use Rattle.urpf_base.specs.declared.address.Addr.TheVariants.{V4, V6}
 
@@ -31,7 +33,19 @@ abbrev pub addr_text : Addr → List ℕ
 addr_text (V4 n) = dotted n
 addr_text (V6 n) = grouped (groups_of n)
 
--- the text spells the address. IPv6 is not read yet, so no text spells one
+-- the eight groups, one after the other (RFC 4291, section 2.2, the first form), or fewer and one gap (the second form)
+pub record IsV6 (text : List ℕ) (n : ℕ) : Type 0 where
+  pub groups : List ℕ
+  pub eight : length groups ≡ 8
+  pub number : n ≡ number_from_digits (2 ^ 16) groups
+  pub spelled : IsGroups text groups ⊎ IsShortened text groups
+
+-- the number has as many bits as its family, or fewer
+abbrev pub IsAddr : Addr → Type 0
+IsAddr (V4 n) = n < 2 ^ 32
+IsAddr (V6 n) = n < 2 ^ 128
+
+-- the text spells the address
 abbrev pub SpellsAddr : List ℕ → Addr → Type 0
 SpellsAddr text (V4 n) = (n < 2 ^ 32) × (text ≡ dotted n)
-SpellsAddr text (V6 n) = ⊥
+SpellsAddr text (V6 n) = IsV6 text n

@@ -3,6 +3,7 @@
 #![tactic(auto)]
 
 mod cutting;
+mod groups;
 mod numbers;
 mod printing;
 mod reading;

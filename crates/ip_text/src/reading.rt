@@ -1,13 +1,15 @@
 //! Reading an address: the octets of its text come in, and the address goes out.
 //!
-//! IPv4 is four decimal numbers from 0 to 255 without leading zeros, parted by dots. Nothing stands
-//! before or after.
+//! IPv4 is four decimal numbers from 0 to 255 without leading zeros, parted by dots. IPv6 is eight
+//! groups of one to four hexadecimal digits, parted by colons, where one `::` may stand for one or
+//! more groups of zeros (RFC 4291, section 2.2). Nothing stands before or after.
 ghost use Rattle.std.specs.Prelude.{◌≡◌, ℕ, List, ◌∷◌, ◌++◌, ◌<◌, ◌^◌, Some, decimal};
 ghost use Rattle.std.specs.Option.{IfSome, IsSomeAnd};
 ghost use Rattle.urpf_base.specs.declared.address.Addr.{Addr};
-ghost use Rattle.ip_text.specs.Texts.{SpellsAddr, addr_text, dotted};
+ghost use Rattle.ip_text.specs.Texts.{SpellsAddr, IsAddr, addr_text, dotted};
 
 use crate::cutting::cut;
+use crate::groups::read_v6;
 use crate::numbers::read_number;
 use urpf_base::Addr;
 
@@ -16,13 +18,15 @@ pub fn read_addr(text: &[u8]) -> Option<Addr>
     ensures found { IfSome result (SpellsAddr text.now) }
     ensures only { (a : Addr) → SpellsAddr text.now a → result ≡ Some a }
     // What is printed of an address is read as that address.
-    ensures printed { (n : ℕ) → n < 2 ^ 32 → text.now ≡ addr_text (Addr.V4 n)
-        → result ≡ Some (Addr.V4 n) }
+    ensures printed { (a : Addr) → IsAddr a → text.now ≡ addr_text a → result ≡ Some a }
 {
-    let Some(number) = read_v4(text) else {
+    if let Some(number) = read_v4(text) {
+        return Some(Addr::V4(number));
+    }
+    let Some(number) = read_v6(text) else {
         return None;
     };
-    Some(Addr::V4(number))
+    Some(Addr::V6(number))
 }
 
 fn read_v4(text: &[u8]) -> Option<u32>

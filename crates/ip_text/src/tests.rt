@@ -17,6 +17,53 @@ fn four_numbers_are_an_address(rt: HostRuntime) -> Result<(), Fail> {
 }
 
 #[test]
+fn eight_groups_or_a_gap_are_an_address(rt: HostRuntime) -> Result<(), Fail> {
+    for (text, number) in [
+        (b"::".as_slice(), 0),
+        (
+            b"2001:db8::1".as_slice(),
+            0x2001_0db8_0000_0000_0000_0000_0000_0001,
+        ),
+        (
+            b"1:2:3:4:5:6:7:8".as_slice(),
+            0x0001_0002_0003_0004_0005_0006_0007_0008,
+        ),
+        (b"1::".as_slice(), 0x0001_0000_0000_0000_0000_0000_0000_0000),
+        (
+            b"1:2:3:4:5:6:7::".as_slice(),
+            0x0001_0002_0003_0004_0005_0006_0007_0000,
+        ),
+        (
+            b"::2:3:4:5:6:7:8".as_slice(),
+            0x0000_0002_0003_0004_0005_0006_0007_0008,
+        ),
+        (b"::FfFf".as_slice(), 0xffff),
+    ] {
+        let addr = read_addr(text).ok_or("an address")?;
+        assert!(rt; addr == Addr::V6(number), "{text:?}");
+    }
+    Ok(())
+}
+
+#[test]
+fn other_groups_are_none(rt: HostRuntime) {
+    for text in [
+        b"1:2:3:4:5:6:7:8::".as_slice(),
+        b":::".as_slice(),
+        b"1:::2".as_slice(),
+        b"12345::".as_slice(),
+        b"1:2:3:4:5:6:7".as_slice(),
+        b"::1::".as_slice(),
+        b"1:2:3:4:5:6:7:8:9".as_slice(),
+        b":1::".as_slice(),
+        b"g::".as_slice(),
+        b"::1.2.3.4".as_slice(),
+    ] {
+        assert!(rt; read_addr(text).is_none(), "{text:?}");
+    }
+}
+
+#[test]
 fn other_texts_are_none(rt: HostRuntime) {
     for text in [
         b"01.2.3.4".as_slice(),

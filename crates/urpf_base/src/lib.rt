@@ -4,6 +4,7 @@
 
 mod address;
 mod counting;
+mod interfaces;
 mod line_buffer;
 mod memory;
 mod origins;
@@ -16,6 +17,7 @@ mod writing;
 
 pub use address::Addr;
 pub use counting::Steps;
+pub use interfaces::{IFACE_LIMIT, IfaceId};
 pub use line_buffer::Line;
 pub use memory::{MemSink, MemSource, SureSink, SureSource};
 pub use origins::Origin;

@@ -2,8 +2,8 @@
 ghost use Rattle.std.specs.Prelude.{◌≡◌, ◌<◌};
 
 use crate::{
-    Addr, Failed, MemSink, MemSource, Prefix, Sink, Steps, SureSink, SureSource, TextFault,
-    read_text, write_all,
+    Addr, Failed, IfaceId, MemSink, MemSource, Prefix, Sink, Steps, SureSink, SureSource,
+    TextFault, read_text, write_all,
 };
 use std::alloc::Global;
 use std::marker::Brand;
@@ -91,4 +91,11 @@ fn two_steps<L: Ledger>(blank: Blank)
 #[test]
 fn steps_are_counted_at_a_ledger() {
     two_steps::<Brand>(Blank::new(1));
+}
+
+#[test]
+fn interfaces_have_numbers_below_64(rt: HostRuntime) -> Result<(), Fail> {
+    assert_eq!(rt; IfaceId::new(64), None);
+    assert_eq!(rt; IfaceId::new(63).ok_or("fits")?.number(), 63);
+    Ok(())
 }

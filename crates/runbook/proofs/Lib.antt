@@ -1,0 +1,4 @@
+pub mod Cuts
+pub mod Sayings
+pub mod Books
+pub mod Faults

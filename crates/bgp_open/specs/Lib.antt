@@ -1,0 +1,3 @@
+pub mod Capabilities
+pub mod Fields
+pub mod Openings

@@ -1,5 +1,5 @@
 //! The routes of one session, by prefix.
-ghost use Rattle.std.specs.Prelude.{◌≡◌, ◌↔◌, [], ◌∷◌, length, IsTrue, IfSome, IfNone, IfOk, OnOk, OnErr, Some, None, option_copied};
+ghost use Rattle.std.specs.Prelude.{◌≡◌, ◌↔◌, [], ◌∷◌, length, IsTrue, IfSome, IfNone, IfOk, OnOk, OnErr, Some, None, option_copied, ◌<◌, ◌^◌};
 ghost use Rattle.std.specs.BTreeMap.Range.{is_from_start};
 ghost use Rattle.urpf_base.specs.Address.{Block, Covers};
 ghost use Rattle.urpf_base.specs.Lists.{Has};
@@ -82,7 +82,8 @@ impl AdjRib {
 
     /// How many prefixes there are.
     pub fn len(&self) -> usize
-        ensures { result ≡ length (prefixes_of self.now) }
+        ensures count { result ≡ length (prefixes_of self.now) }
+        ensures small { result < 2 ^ 63 }
     {
         self.routes.len()
     }

@@ -23,8 +23,9 @@ still_set x p rest value now next change (inl (inl same)) = inr (subst (λ (q : 
 still_set x p rest value now next change (inl (inr later)) = inl later
 still_set x p rest value now next change (inr is) =
     elim (same_block p x) [
-      inl same ↦ inr (subst (λ (q : Block). routes_at next q ≡ value) (sym same) change.here)
-      | inr other ↦ inr (change.others p other ∙ is) ]
+      | inl same ↦ inr (subst (λ (q : Block). routes_at next q ≡ value) (sym same) change.here)
+      | inr other ↦ inr (change.others p other ∙ is)
+    ]
 
 pub walk_goes_on : (all rest : List Block) (x : Block) (value : Option (Option ℕ)) (old now next : Routes) → IsUnderWay all (x ∷ rest) value old now → ChangesAt x value now next → IsUnderWay all rest value old next
 walk_goes_on all rest x value old now next walk change = record {

@@ -14,3 +14,8 @@ pub record Applies (update : RouteUpdate) (old new : Routes) : Type 0 where
   pub announced : (p : Block) → Has update.announced p → routes_at new p ≡ Some update.origin
   pub withdrawn : (p : Block) → Has update.withdrawn p → (Has update.announced p → ⊥) → routes_at new p ≡ None
   pub others : (p : Block) → IsSilent p update → routes_at new p ≡ routes_at old p
+
+-- what an item changes: nothing, or what its UPDATE does
+abbrev pub Follows : Option RouteUpdate → Routes → Routes → Type 0
+Follows None old new = new ≡ old
+Follows (Some update) old new = Applies update old new

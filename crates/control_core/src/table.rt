@@ -32,11 +32,7 @@ fn withdraw(rib: &mut AdjRib, prefixes: Withdrawn<'_>)
 }
 
 /// Gives each of the prefixes the origin.
-fn announce(
-    rib: &mut AdjRib,
-    prefixes: Announced<'_>,
-    origin: Origin,
-) -> Result<(), OutOfMemory>
+fn announce(rib: &mut AdjRib, prefixes: Announced<'_>, origin: Origin) -> Result<(), OutOfMemory>
     ensures there { OnOk result ((p : Block) → Has prefixes.entry p
         → routes_at rib.new p ≡ Some origin) }
     ensures others { (p : Block) → (Has prefixes.entry p → ⊥)

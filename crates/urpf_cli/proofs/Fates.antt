@@ -7,7 +7,7 @@ use Rattle.bgp_wire.proofs.Framings.{one_framing}
 use Rattle.urpf_cli.specs.Session.{Says, SayAll, IsRead, IsFaultAt, IsStrangeAt}
 use Rattle.std.specs.Io.KnownBytes.{Appends}
 use Rattle.std.proofs.lemmas.List.{take-append-drop}
-use Rattle.urpf_cli.specs.CheckOne.{AreWords, IsCheckLine, Within, IsRefused, Fate, FitNoForm, Deserves, WritesFront}
+use Rattle.urpf_cli.specs.CheckOne.{AreWords, IsCheckLine, Within, IsRefused, Fate, FitNoForm, Deserves, WritesFront, WritesLine}
 use Rattle.urpf_cli.specs.declared.check.TheConstants.{STREAM_OCTETS}
 use Rattle.urpf_cli.specs.declared.status.Object.TheVariants.{Stream}
 use Rattle.urpf_cli.specs.declared.status.Status.{Status}
@@ -189,5 +189,16 @@ front_written words (Some t) stream source line n old new whole fit is_line appe
   front = take n line;
   more = drop n line;
   is_line = subst (λ (x : List ℕ). IsCheckLine x source (take n line ++ drop n line)) whole (rw (take-append-drop n line) is_line);
+  appended = appends;
+}
+
+-- a write that ended well took the whole line
+pub line_written : (words : List (List ℕ)) (left : Option (List ℕ)) (stream : List ℕ) (source : Addr) (line : List ℕ) (old new : Option (List ℕ)) → IfSome left (λ all. stream ≡ all) → AreWords words source → IsCheckLine stream source line → Appends old new line → IfSome left (λ t. WritesLine words t old new)
+line_written words None stream source line old new whole fit is_line appends = tt
+line_written words (Some t) stream source line old new whole fit is_line appends = record {
+  source = source;
+  words_fit = fit;
+  line = line;
+  is_line = subst (λ (x : List ℕ). IsCheckLine x source line) whole is_line;
   appended = appends;
 }

@@ -8,7 +8,7 @@ ghost use Rattle.control_core.specs.Differences.{IsDifference};
 ghost use Rattle.control_core.specs.Table.{Follows};
 
 use crate::differences::{came_or_went, copied};
-use crate::table::apply_update;
+use crate::table::apply_item;
 use adj_rib::AdjRib;
 use bgp_update::UpdateView;
 use std::alloc::Global;
@@ -64,10 +64,7 @@ impl Control {
         if self.spent {
             return Err(OutOfMemory);
         }
-        let Some(update) = update else {
-            return Ok(());
-        };
-        match apply_update(&mut self.rib, update) {
+        match apply_item(&mut self.rib, update) {
             Ok(()) => Ok(()),
             Err(OutOfMemory) => {
                 self.spent = true;

@@ -6,4 +6,4 @@ mod differences;
 mod table;
 
 pub use control::Control;
-pub use table::{apply_update, one_more_update};
+pub use table::{apply_item, apply_update, one_more_update};

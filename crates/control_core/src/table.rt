@@ -1,10 +1,10 @@
 //! The routes of one session after one more UPDATE (RFC 4271, sections 3.2 and 4.3).
-ghost use Rattle.std.specs.Prelude.{◌≡◌, ◌∷◌, ◌++◌, [], List, OnOk, Some, None};
+ghost use Rattle.std.specs.Prelude.{◌≡◌, ◌∷◌, ◌++◌, [], List, OnOk, Some, None, option_copied};
 ghost use Rattle.urpf_base.specs.Address.{Block};
 ghost use Rattle.urpf_base.specs.Lists.{Has};
 ghost use Rattle.urpf_base.specs.RouteUpdates.{RouteUpdate};
 ghost use Rattle.adj_rib.specs.Routes.{Routes, routes_at};
-ghost use Rattle.control_core.specs.Table.{Applies, HoldsRoutes};
+ghost use Rattle.control_core.specs.Table.{Applies, Follows, HoldsRoutes};
 
 use adj_rib::AdjRib;
 use bgp_update::{Announced, UpdateView, Withdrawn};
@@ -18,6 +18,16 @@ pub fn apply_update(rib: &mut AdjRib, update: &UpdateView<'_>) -> Result<(), Out
     withdraw(rib, update.withdrawn());
     announce(rib, update.announced(), update.origin())?;
     Ok(())
+}
+
+/// Takes one item: an UPDATE, or None for a KEEPALIVE, which changes nothing.
+pub fn apply_item(rib: &mut AdjRib, item: Option<&UpdateView<'_>>) -> Result<(), OutOfMemory>
+    ensures { OnOk result (Follows (option_copied item.entry) rib.old rib.new) }
+{
+    match item {
+        Some(update) => apply_update(rib, update),
+        None => Ok(()),
+    }
 }
 
 /// Takes the prefixes out.

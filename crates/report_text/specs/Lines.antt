@@ -2,6 +2,8 @@
 use Rattle.std.specs.Prelude.{ℕ, Bool, if◌then◌else◌, List, ◌∷◌, ◌++◌, map, codes, decimal}
 use Rattle.std.specs.List.{concat}
 use Rattle.urpf_base.specs.declared.address.Addr.{Addr}
+use Rattle.urpf_base.specs.declared.verdicts.Verdict.{Verdict}
+use Rattle.urpf_base.specs.declared.verdicts.Verdict.TheVariants.{Pass, Drop, BadHead, NoIface}
 use Rattle.ip_text.specs.Texts.{addr_text}
 
 -- what a run stands on: its interfaces and sessions, the distinct pairs, and the records that were skipped
@@ -34,3 +36,15 @@ verdict_word pass = if pass then codes "pass" else codes "drop"
 abbrev pub check_one_line : Addr → Bool → ℕ → ℕ → ℕ → List ℕ
 check_one_line addr pass messages prefixes rest =
     codes "check " ++ addr_text addr ++ codes " " ++ verdict_word pass ++ codes " messages " ++ decimal messages ++ codes " prefixes " ++ decimal prefixes ++ codes " rest " ++ decimal rest ++ codes "\n"
+
+-- what a verdict is called
+abbrev pub verdict_text : Verdict → List ℕ
+verdict_text Pass = codes "pass"
+verdict_text Drop = codes "drop"
+verdict_text BadHead = codes "badhead"
+verdict_text NoIface = codes "noif"
+
+-- the check of a source on an interface against the publication of this number
+abbrev pub check_line : ℕ → Addr → Verdict → ℕ → List ℕ
+check_line iface addr verdict number =
+    codes "check " ++ decimal iface ++ codes " " ++ addr_text addr ++ codes " " ++ verdict_text verdict ++ codes " " ++ decimal number ++ codes "\n"

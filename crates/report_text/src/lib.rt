@@ -6,7 +6,7 @@ mod checks;
 mod fields;
 mod runs;
 
-pub use checks::put_one;
+pub use checks::{put_check, put_one};
 pub use runs::{put_done, put_end, put_mark, put_run};
 
 #[cfg(test)]

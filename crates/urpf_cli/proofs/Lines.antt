@@ -10,7 +10,8 @@ use Rattle.urpf_base.specs.Lists.{Has}
 use Rattle.urpf_base.specs.RouteUpdates.{RouteUpdate, HasRoute}
 use Rattle.adj_rib.specs.Routes.{Routes, routes_at, prefixes_of}
 use Rattle.adj_rib.proofs.Routes.{has_held}
-use Rattle.control_core.specs.Table.{HoldsRoutes}
+use Rattle.control_core.specs.Table.{Follows, HoldsRoutes}
+use Rattle.control_core.proofs.Routes.{holds_one_more}
 use Rattle.report_text.specs.Lines.{check_one_line}
 use Rattle.urpf_cli.specs.Session.{updates_of}
 
@@ -54,3 +55,19 @@ not_unequal xs ys told = (bytes_eq-Decides xs ys).0 (true_from (bytes_eq xs ys) 
     true_from : (b : Bool) → false ≡ not b → b ≡ true
     true_from true e = refl
     true_from false e = e
+
+-- the UPDATEs of one item more
+updates_of-keepalive : (ss : List (Option RouteUpdate)) → updates_of (ss ++ None ∷ []) ≡ updates_of ss
+updates_of-keepalive [] = refl
+updates_of-keepalive (None ∷ ss) = updates_of-keepalive ss
+updates_of-keepalive (Some u ∷ ss) = ap (λ us. u ∷ us) (updates_of-keepalive ss)
+
+updates_of-update : (ss : List (Option RouteUpdate)) (u : RouteUpdate) → updates_of (ss ++ Some u ∷ []) ≡ updates_of ss ++ u ∷ []
+updates_of-update [] u = refl
+updates_of-update (None ∷ ss) u = updates_of-update ss u
+updates_of-update (Some v ∷ ss) u = ap (λ us. v ∷ us) (updates_of-update ss u)
+
+-- a table after one item more
+pub held_next : (ss : List (Option RouteUpdate)) (s : Option RouteUpdate) (old new : Routes) → HoldsRoutes (updates_of ss) old → Follows s old new → HoldsRoutes (updates_of (ss ++ s ∷ [])) new
+held_next ss None old new held follows = rw (updates_of-keepalive ss, follows) held
+held_next ss (Some u) old new held follows = rw (updates_of-update ss u) (holds_one_more (updates_of ss) u old new held follows)

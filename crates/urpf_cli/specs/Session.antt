@@ -1,14 +1,12 @@
 -- What the stream of an established session says, and where it cannot be read (RFC 4271, sections 4 and 6).
 use Rattle.std.specs.Prelude.{◌≡◌, ℕ, ◌+◌, List, [], ◌∷◌, ◌++◌, length, drop, Option, Some, None}
 use Rattle.urpf_base.specs.RouteUpdates.{RouteUpdate}
-use Rattle.adj_rib.specs.Routes.{Routes}
 use Rattle.bgp_wire.specs.Header.{type_field}
 use Rattle.bgp_wire.specs.Frames.{Frames, End, Clean, Fault}
 use Rattle.bgp_wire.specs.States.{kind_of}
 use Rattle.bgp_wire.specs.declared.kinds.MsgKind.{MsgKind}
 use Rattle.bgp_wire.specs.declared.kinds.MsgKind.TheVariants.{Update, Keepalive}
 use Rattle.bgp_update.specs.Plain.{IsPlain}
-use Rattle.control_core.specs.Table.{Applies, HoldsRoutes}
 
 -- a message of this kind and body is a KEEPALIVE, which says nothing, or an UPDATE, which says this
 abbrev pub SaysBy : MsgKind → List ℕ → Option RouteUpdate → Type 0
@@ -18,11 +16,6 @@ SaysBy kind body (Some update) = (kind ≡ Update) × IsPlain body update
 -- the octets of a whole message say this
 abbrev pub Says : List ℕ → Option RouteUpdate → Type 0
 Says message said = SaysBy (kind_of (type_field message)) (drop 19 message) said
-
--- what such a message changes in the table of routes: nothing, or what its UPDATE does
-abbrev pub Follows : Option RouteUpdate → Routes → Routes → Type 0
-Follows None old new = new ≡ old
-Follows (Some update) old new = Applies update old new
 
 -- the messages say this, each in its turn
 abbrev pub SayAll : List (List ℕ) → List (Option RouteUpdate) → Type 0
@@ -65,11 +58,8 @@ pub record IsStrangeAt (stream : List ℕ) (place : ℕ) : Type 0 where
   pub strange : (s : Option RouteUpdate) → Says message s → ⊥
   pub counted : place ≡ length before + 1
 
--- the stream is read, these are its whole messages and the octets after them, and the table has the routes that it leaves
-pub record Leaves (stream : List ℕ) (messages rest : ℕ) (routes : Routes) : Type 0 where
-  pub said : List (Option RouteUpdate)
+-- the stream is messages that say this, and so many octets are left after them
+pub record Leaves (stream : List ℕ) (said : List (Option RouteUpdate)) (rest : ℕ) : Type 0 where
   pub octets : List ℕ
   pub read : IsRead stream said octets
-  pub counted : messages ≡ length read.messages
   pub left : rest ≡ length octets
-  pub held : HoldsRoutes (updates_of said) routes

@@ -1,18 +1,23 @@
 //! `check SESSION SOURCE`: whether the routes that a recorded session leaves admit a source.
-ghost use Rattle.std.specs.Prelude.{◌≡◌, ◌↔◌, ◌<◌, ◌≤◌, ◌⊎◌, [], ℕ, length, take, IfErr, IfSome, IsSomeAnd, OnOk, map, string_bytes};
+ghost use Rattle.std.specs.Prelude.{None, ◌≡◌, ◌↔◌, ◌<◌, ◌≤◌, ◌⊎◌, [], ℕ, length, take, IfErr, IfSome, IsSomeAnd, OnOk, map, string_bytes};
 ghost use Rattle.std.specs.Io.KnownBytes.{Appends};
+ghost use Rattle.urpf_base.specs.Address.{Block};
 ghost use Rattle.urpf_base.specs.Faults.{Rose};
+ghost use Rattle.adj_rib.specs.Routes.{routes_at};
+ghost use Rattle.control_core.specs.Table.{HoldsRoutes};
 ghost use Rattle.urpf_cli.specs.declared.status.Status.{Status};
 ghost use Rattle.urpf_cli.specs.CheckOne.{Deserves, FitNoForm, IsCheckLine, IsQuiet, IsRefused, Within, status_of_fault, WritesFront, WritesLine};
-ghost use Rattle.urpf_cli.specs.Session.{IsFaultAt, IsStrangeAt};
+ghost use Rattle.urpf_cli.specs.Session.{IsFaultAt, IsStrangeAt, updates_of};
 
 use crate::session::{SessionFault, read_session};
 use crate::status::{Object, Status};
 use crate::words::check_source;
 use adj_rib::AdjRib;
+use bgp_update::UpdateView;
+use control_core::apply_item;
 use report_text::put_one;
 use std::alloc::Global;
-use urpf_base::{Addr, Failed, Line, Sink, Source, TextFault, read_text, write_all};
+use urpf_base::{Addr, Failed, Line, OutOfMemory, Sink, Source, TextFault, read_text, write_all};
 
 /// The most octets of a stream.
 pub const STREAM_OCTETS: usize = 16_777_216;
@@ -80,14 +85,29 @@ fn judge(alloc: Global, stream: &[u8], source: &Addr, line: &mut Line) -> Result
     ensures ok { OnOk result (IsCheckLine stream.now source.now line.new) }
     ensures err { IfErr result (IsRefused stream.now) }
 {
-    let mut rib = AdjRib::new(alloc);
-    let counts = match read_session(stream, &mut rib) {
-        Ok(counts) => counts,
+    let session = match read_session(alloc, stream) {
+        Ok(session) => session,
         Err(fault) => return Err(status_of(fault)),
     };
+    let mut rib = AdjRib::new(alloc);
+    if take_all(&mut rib, &session.items).is_err() {
+        return Err(Status::OutOfMemory);
+    }
     let passes = rib.any_covers(source);
+    let messages = session.items.len() as u64;
     let prefixes = rib.len() as u64;
-    put_one(source, passes, counts.messages, prefixes, counts.rest, line);
+    put_one(source, passes, messages, prefixes, session.rest, line);
+    Ok(())
+}
+
+/// Takes all items into the empty table.
+fn take_all(rib: &mut AdjRib, items: &[Option<UpdateView<'_>>]) -> Result<(), OutOfMemory>
+    requires { (p : Block) → routes_at rib.old p ≡ None }
+    ensures { OnOk result (HoldsRoutes (updates_of items.now) rib.new) }
+{
+    for item in items {
+        apply_item(rib, item.as_ref())?;
+    }
     Ok(())
 }
 

@@ -1,0 +1,4 @@
+pub mod FaultLaws
+pub mod FrontLaws
+pub mod ValueLaws
+pub mod WalkLaws

@@ -1,0 +1,22 @@
+//! The path attributes of an UPDATE (RFC 4271, section 4.3): the field that holds them comes in, and
+//! what the router needs of them, or the first fault of the field, goes out.
+//!
+//! ```text
+//! attributes = attribute ..
+//! attribute  = flags (1 octet), type (1), length (1, or 2 by a flag), value (as many as the length)
+//! ```
+#![tactic(auto)]
+
+mod attribute;
+mod attrs;
+mod demands;
+mod slots;
+mod subcodes;
+mod types;
+mod values;
+mod walking;
+
+pub use attrs::{AttrFault, Attrs};
+pub use demands::Demand;
+pub use types::AttributeType;
+pub use walking::walk;

@@ -1,5 +1,5 @@
 -- A field is attributes as the table asks, or has one first fault, and never both.
-use Rattle.std.proofs.Common.{◌≡◌, ◌⊎◌, inl, inr, ℕ, zero, suc, ◌+◌, ◌<◌, ◌≤◌, Bool, true, false, List, [], ◌∷◌, ◌++◌, length, Option, Some, None, refl, ap, sym, subst, ◌∙◌, append_assoc, length-append, arith}
+use Rattle.std.proofs.Common.{◌≡◌, inl, inr, ℕ, Bool, List, [], ◌∷◌, ◌++◌, length, Option, Some, None, refl, ap, sym, subst, ◌∙◌, append_assoc, length-append, arith}
 use Rattle.std.proofs.lemmas.List.{append-nil}
 use Rattle.urpf_base.specs.Lists.{Has, AreDistinct}
 use Rattle.urpf_base.specs.Series.{Begins, SpellsAll}
@@ -7,9 +7,8 @@ use Rattle.urpf_base.proofs.Series.{front_begins, one_series}
 use Rattle.as_path.specs.declared.widths.Width.{Width}
 use Rattle.bgp_attr.specs.declared.demands.Demand.{Demand}
 use Rattle.bgp_attr.specs.declared.demands.Demand.TheVariants.{New, Known, Flags, Length, Value}
-use Rattle.bgp_attr.specs.declared.subcodes.TheConstants.{MALFORMED_ATTRIBUTE_LIST}
 use Rattle.bgp_attr.specs.Attribute.{Attribute, SpellsAttribute, codes}
-use Rattle.bgp_attr.specs.Faults.{Meets, FirstUnmet, order, subcode, IsProper, AreAttributes, RunsPast, FailsWith, IsFaulty, StopsWith, IsFirstFault}
+use Rattle.bgp_attr.specs.Faults.{Meets, FirstUnmet, order, subcode, IsProper, AreAttributes, FailsWith, IsFaulty, StopsWith, IsFirstFault}
 use Rattle.bgp_attr.specs.Front.{attribute_front}
 use Rattle.bgp_attr.proofs.FrontLaws.{attribute_reads}
 
@@ -118,12 +117,13 @@ ends_from width v6 before [] front rest o spelled distinct proper stops =
     subst (λ (t : List ℕ). Stops width v6 before (t ++ rest) o) (sym spelled) (subst (λ (xs : List Attribute). Stops width v6 xs rest o) (append-nil before) stops)
 ends_from width v6 before (a ∷ attributes) front rest o spelled distinct proper stops =
     let b = spelled.1 in
-    let seam : before ++ a ∷ attributes ≡ (before ++ a ∷ []) ++ attributes = sym (append_assoc before (a ∷ []) attributes) in
-    (spelled.0 ++ rest,
-     record { one = b.one; spelled = b.spelled; parts = ap (λ t. t ++ rest) b.parts ∙ append_assoc b.one spelled.0 rest },
-     meets_all width v6 before a (not_before before a attributes distinct) (proper a (inl refl)),
-     ends_from width v6 (before ++ a ∷ []) attributes spelled.0 rest o spelled.2 (subst (λ (xs : List Attribute). AreDistinct (codes xs)) seam distinct)
-       (λ x has. proper x (inr has)) (subst (λ (xs : List Attribute). Stops width v6 xs rest o) seam stops))
+    let seam : before ++ a ∷ attributes ≡ (before ++ a ∷ []) ++ attributes = sym (append_assoc before (a ∷ []) attributes) in (
+      spelled.0 ++ rest,
+      record { one = b.one; spelled = b.spelled; parts = ap (λ t. t ++ rest) b.parts ∙ append_assoc b.one spelled.0 rest },
+      meets_all width v6 before a (not_before before a attributes distinct) (proper a (inl refl)),
+      ends_from width v6 (before ++ a ∷ []) attributes spelled.0 rest o spelled.2 (subst (λ (xs : List Attribute). AreDistinct (codes xs)) seam distinct)
+          (λ x has. proper x (inr has)) (subst (λ (xs : List Attribute). Stops width v6 xs rest o) seam stops),
+    )
 
 -- attributes as the table asks are a field that ends with nothing
 good_ends : (width : Width) (v6 : Bool) (field : List ℕ) (attributes : List Attribute) → AreAttributes width v6 field attributes → Ends width v6 [] field attributes None

@@ -1,30 +1,32 @@
 -- A field of attributes is one attribute after the other, and the first of them is read by a function.
-use Rattle.std.proofs.Common.{◌≡◌, ℕ, zero, suc, ◌+◌, ◌<◌, ◌≤◌, Bool, true, false, List, [], ◌∷◌, ◌++◌, length, take, drop, Option, Some, None, if◌then◌else◌, nat_lt, refl, ap, sym, subst, ◌∙◌, append_assoc, length-append, length-drop, arith, ltb-true, ltb-false, le-ltb}
+use Rattle.std.proofs.Common.{◌≡◌, ℕ, ◌≤◌, Bool, true, false, List, [], ◌∷◌, ◌++◌, length, take, drop, Some, None, if◌then◌else◌, nat_lt, refl, ap, sym, subst, ◌∙◌, append_assoc, length-append, arith, ltb-false, le-ltb}
 use Rattle.std.proofs.lemmas.List.{take-append-drop, length-take-le}
 use Rattle.std.proofs.Math.Seq.{take-append_seam, drop-append_seam}
 use Rattle.byteorder.specs.Endian.{big_number}
 use Rattle.byteorder.specs.Numbers.{big_from-append, big_from-take}
-use Rattle.urpf_base.specs.Series.{Begins, SpellsAll, ReadsFront}
+use Rattle.urpf_base.specs.Series.{Begins, ReadsFront}
 use Rattle.bgp_attr.specs.Attribute.{Attribute, attribute_of, length_octets, SpellsAttribute}
 use Rattle.bgp_attr.specs.Front.{cut_attribute, attribute_of_length, attribute_after, attribute_front}
 
 cut_begins : (flags code : ℕ) (text : List ℕ) → length_octets flags ≤ length text → big_number (length_octets flags) text ≤ length (drop (length_octets flags) text)
     → Begins SpellsAttribute (flags ∷ code ∷ text) (cut_attribute flags code (big_number (length_octets flags) text) (drop (length_octets flags) text)).0
-      (cut_attribute flags code (big_number (length_octets flags) text) (drop (length_octets flags) text)).1
+    (cut_attribute flags code (big_number (length_octets flags) text) (drop (length_octets flags) text)).1
 cut_begins flags code text enough whole =
     let octets = length_octets flags in
     let count = big_number octets text in
     let value = take count (drop octets text) in
     let parts : text ≡ take octets text ++ (value ++ drop count (drop octets text)) =
-      sym (take-append-drop octets text) ∙ ap (λ t. take octets text ++ t) (sym (take-append-drop count (drop octets text))) in
+    sym (take-append-drop octets text) ∙ ap (λ t. take octets text ++ t) (sym (take-append-drop count (drop octets text))) in
     record {
       one = flags ∷ code ∷ (take octets text ++ value);
       spelled = record {
         size = take octets text;
         parts = refl;
         sized = length-take-le octets text enough;
-        counted = length-take-le count (drop octets text) whole ∙ sym (big_from-take 0 octets octets text (omega arith)) };
-      parts = ap (λ t. flags ∷ code ∷ t) (parts ∙ sym (append_assoc (take octets text) value (drop count (drop octets text)))) }
+        counted = length-take-le count (drop octets text) whole ∙ sym (big_from-take 0 octets octets text (omega arith));
+      };
+      parts = ap (λ t. flags ∷ code ∷ t) (parts ∙ sym (append_assoc (take octets text) value (drop count (drop octets text))));
+    }
 
 whole_begins : (flags code : ℕ) (text rest : List ℕ) (x : Attribute) (short : Bool) → length_octets flags ≤ length text → nat_lt (length (drop (length_octets flags) text)) (big_number (length_octets flags) text) ≡ short
     → (if short then None else Some (cut_attribute flags code (big_number (length_octets flags) text) (drop (length_octets flags) text))) ≡ Some (x, rest) → Begins SpellsAttribute (flags ∷ code ∷ text) x rest
@@ -77,6 +79,7 @@ attribute_again one rest x spelled =
 -- the function finds the attribute that is spelled in front, and nothing else
 pub attribute_reads : ReadsFront SpellsAttribute attribute_front
 attribute_reads = record {
-    taken = attribute_taken;
-    again = attribute_again;
-    some = λ one x spelled. let e : length one ≡ length (x.flags ∷ x.code ∷ (spelled.size ++ x.value)) = ap length spelled.parts in omega arith }
+  taken = attribute_taken;
+  again = attribute_again;
+  some = λ one x spelled. let e : length one ≡ length (x.flags ∷ x.code ∷ (spelled.size ++ x.value)) = ap length spelled.parts in omega arith;
+}

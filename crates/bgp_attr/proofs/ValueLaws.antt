@@ -1,5 +1,5 @@
 -- The values of a list of attributes, and what they tell.
-use Rattle.std.proofs.Common.{◌≡◌, ◌⊎◌, inl, inr, ℕ, zero, suc, ◌+◌, ◌<◌, ◌≤◌, ◌==◌, Bool, true, false, List, [], ◌∷◌, ◌++◌, length, Option, Some, None, if◌then◌else◌, IfSome, refl, ap, sym, subst, ◌∙◌, length-append, arith, eqb-true, IsTrue, drop}
+use Rattle.std.proofs.Common.{◌≡◌, inl, inr, ℕ, ◌+◌, ◌<◌, ◌==◌, Bool, true, false, List, [], ◌∷◌, ◌++◌, length, Option, Some, None, if◌then◌else◌, IfSome, refl, ap, sym, subst, ◌∙◌, length-append, arith, eqb-true, IsTrue, drop}
 use Rattle.std.specs.Option.{ForSome}
 use Rattle.urpf_base.specs.Address.{Block}
 use Rattle.urpf_base.specs.Lists.{Has}
@@ -7,13 +7,13 @@ use Rattle.bgp_nlri.specs.Nlri.{SpellsPrefixes}
 use Rattle.bgp_nlri.specs.declared.family.Family.TheVariants as family
 use Rattle.as_path.specs.declared.widths.Width.{Width}
 use Rattle.as_path.specs.declared.widths.Width.TheVariants.{Two, Four}
-use Rattle.as_path.specs.Path.{Segment, type_of, numbers_of, octets_per, IsPath}
+use Rattle.as_path.specs.Path.{Segment, octets_per, IsPath}
 use Rattle.bgp_attr.specs.declared.types.AttributeType.{AttributeType}
 use Rattle.bgp_attr.specs.declared.types.AttributeType.TheVariants.{Origin, AsPath, NextHop, MultiExitDisc, LocalPref, AtomicAggregate, Aggregator, MpReachNlri, MpUnreachNlri, As4Path, As4Aggregator}
 use Rattle.bgp_attr.specs.Attribute.{Attribute, codes}
 use Rattle.bgp_attr.specs.Table.{row, code_of, type_from, IsAsPath, IsMpReach, IsMpUnreach, is_heeded, reach_place}
 use Rattle.bgp_attr.specs.Faults.{HasLength, IsProper}
-use Rattle.bgp_attr.specs.Slots.{Values, values, value_at, value_of, values_of, put, with_attribute, AreFit}
+use Rattle.bgp_attr.specs.Slots.{value_at, values_of, put, with_attribute, AreFit}
 use Rattle.bgp_attr.specs.Told.{TellsAs4, reach_in, unreach_in}
 
 path_has_octets : (value : List ℕ) (segments : List Segment) → length value ≡ 0 → 0 < length segments → IsPath Four value segments → ⊥
@@ -82,10 +82,11 @@ found_is P code (x ∷ attributes) each value found =
 -- the values of attributes as the table asks are as it asks
 pub values_fit : (width : Width) (v6 : Bool) (attributes : List Attribute) → ((a : Attribute) → Has attributes a → IsProper width v6 a) → AreFit width v6 (values_of attributes)
 values_fit width v6 attributes proper = record {
-    path = found_is (IsAsPath width) 2 attributes (λ a has same. proper_fits width v6 AsPath a same (proper a has));
-    aggregator = found_is (λ value. length value ≡ octets_per width + 4) 7 attributes (λ a has same. proper_length width v6 Aggregator a same (proper a has));
-    reach = found_is (IsMpReach v6) 14 attributes (λ a has same. proper_fits width v6 MpReachNlri a same (proper a has));
-    unreach = found_is (IsMpUnreach v6) 15 attributes (λ a has same. proper_fits width v6 MpUnreachNlri a same (proper a has)) }
+  path = found_is (IsAsPath width) 2 attributes (λ a has same. proper_fits width v6 AsPath a same (proper a has));
+  aggregator = found_is (λ value. length value ≡ octets_per width + 4) 7 attributes (λ a has same. proper_length width v6 Aggregator a same (proper a has));
+  reach = found_is (IsMpReach v6) 14 attributes (λ a has same. proper_fits width v6 MpReachNlri a same (proper a has));
+  unreach = found_is (IsMpUnreach v6) 15 attributes (λ a has same. proper_fits width v6 MpUnreachNlri a same (proper a has));
+}
 
 heeded_prefixes : (heeded : Bool) (field : List ℕ) → (IsTrue heeded → (prefixes : List Block) × SpellsPrefixes family.V6 field prefixes) → (prefixes : List Block) × SpellsPrefixes family.V6 (if heeded then field else []) prefixes
 heeded_prefixes true field spelled = spelled refl

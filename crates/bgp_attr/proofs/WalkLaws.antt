@@ -1,9 +1,9 @@
 -- How far a walk over a field of attributes has come.
-use Rattle.std.proofs.Common.{◌≡◌, ◌⊎◌, inl, inr, ◌↔◌, ◌≢◌, ℕ, zero, suc, ◌+◌, ◌<◌, ◌≤◌, Bool, true, false, IsTrue, List, [], ◌∷◌, ◌++◌, length, get_or, set, replicate, Option, Some, None, refl, ap, sym, subst, ◌∙◌, append_assoc, length-append, arith, get_or-set_other, get_or-set_same, length-set}
+use Rattle.std.proofs.Common.{◌≡◌, ◌⊎◌, inl, inr, ◌↔◌, ◌≢◌, ℕ, ◌<◌, Bool, true, false, IsTrue, List, [], ◌∷◌, ◌++◌, length, get_or, set, replicate, Some, None, refl, ap, sym, subst, ◌∙◌, append_assoc, arith, get_or-set_other, get_or-set_same, length-set}
 use Rattle.std.proofs.lemmas.Bool.Decides.{eqb_tells}
 use Rattle.std.proofs.lemmas.List.{append-nil, get_or-replicate}
 use Rattle.urpf_base.specs.Lists.{Has, AreDistinct}
-use Rattle.urpf_base.specs.Series.{Begins, SpellsAll}
+use Rattle.urpf_base.specs.Series.{Begins}
 use Rattle.urpf_base.proofs.Series.{front_begins, spells-append}
 use Rattle.as_path.specs.declared.widths.Width.{Width}
 use Rattle.bgp_attr.specs.declared.subcodes.TheConstants.{MALFORMED_ATTRIBUTE_LIST}
@@ -26,11 +26,14 @@ pub record IsWalked (width : Width) (v6 : Bool) (field rest : List ℕ) (marks :
 
 walk_start : (width : Width) (v6 : Bool) (field : List ℕ) → IsWalked width v6 field field (replicate 256 false) no_values
 walk_start width v6 field = record {
-    before = []; front = []; parts = refl;
-    good = record { spelled = refl; distinct = tt; proper = λ a has. absurd has };
-    room = refl;
-    marked = λ code within. (λ is_marked. unmarked code within is_marked, λ has. absurd has);
-    values = refl }
+  before = [];
+  front = [];
+  parts = refl;
+  good = record { spelled = refl; distinct = tt; proper = λ a has. absurd has };
+  room = refl;
+  marked = λ code within. (λ is_marked. unmarked code within is_marked, λ has. absurd has);
+  values = refl;
+}
   where
     unmarked : (code : ℕ) → code < 256 → IsTrue (get_or (replicate 256 false) code false) → ⊥
     unmarked code within is_marked = let e = get_or-replicate 256 code false false within in cc
@@ -67,9 +70,10 @@ proper_more width v6 (b ∷ before) a each proper x (inr has) = proper_more widt
 
 good_more : (width : Width) (v6 : Bool) (front one : List ℕ) (before : List Attribute) (a : Attribute) → AreAttributes width v6 front before → SpellsAttribute one a → (Has (codes before) a.code → ⊥) → IsProper width v6 a → AreAttributes width v6 (front ++ one) (before ++ a ∷ [])
 good_more width v6 front one before a good spelled new proper = record {
-    spelled = spells-append SpellsAttribute front one before (a ∷ []) good.spelled ([], record { one = one; spelled = spelled; parts = sym (append-nil one) }, refl);
-    distinct = distinct_more before a good.distinct new;
-    proper = proper_more width v6 before a good.proper proper }
+  spelled = spells-append SpellsAttribute front one before (a ∷ []) good.spelled ([], record { one = one; spelled = spelled; parts = sym (append-nil one) }, refl);
+  distinct = distinct_more before a good.distinct new;
+  proper = proper_more width v6 before a good.proper proper;
+}
 
 mark_same : (before : List Attribute) (a : Attribute) (marks : List Bool) (code : ℕ) → a.code < length marks → code ≡ a.code → IsTrue (get_or (set marks a.code true) code false) ↔ Has (codes (before ++ a ∷ [])) code
 mark_same before a marks code within same =
@@ -77,9 +81,10 @@ mark_same before a marks code within same =
 
 mark_other : (before : List Attribute) (a : Attribute) (marks : List Bool) (code : ℕ) → code ≢ a.code → IsTrue (get_or marks code false) ↔ Has (codes before) code → IsTrue (get_or (set marks a.code true) code false) ↔ Has (codes (before ++ a ∷ [])) code
 mark_other before a marks code differ old =
-    let kept = get_or-set_other marks a.code code true false differ in
-    (λ is_marked. has_still before a code (old.0 (sym kept ∙ is_marked)),
-     λ has. kept ∙ old.1 (elim (has_or_last before a code has) [ inl h ↦ h | inr same ↦ absurd (differ same) ]))
+    let kept = get_or-set_other marks a.code code true false differ in (
+      λ is_marked. has_still before a code (old.0 (sym kept ∙ is_marked)),
+      λ has. kept ∙ old.1 (elim (has_or_last before a code has) [ inl h ↦ h | inr same ↦ absurd (differ same) ]),
+    )
 
 -- one more mark
 mark_more : (before : List Attribute) (a : Attribute) (marks : List Bool) → length marks ≡ 256 → ((code : ℕ) → code < 256 → IsTrue (get_or marks code false) ↔ Has (codes before) code) → a.code < 256
@@ -102,7 +107,8 @@ walk_further {width} {v6} {field} {text} {marks} {held} walked rest a found with
       good = good_more width v6 walked.front b.one walked.before a walked.good b.spelled new proper;
       room = length-set marks a.code true ∙ walked.room;
       marked = mark_more walked.before a marks walked.room walked.marked within;
-      values = ap (with_attribute a) walked.values ∙ sym (values_of-more walked.before a new) }
+      values = ap (with_attribute a) walked.values ∙ sym (values_of-more walked.before a new);
+    }
   where
     is_marked : (mark : Bool) → mark ≡ false → IsTrue mark → ⊥
     is_marked mark unmarked_is marked_is = cc
@@ -117,8 +123,13 @@ walk_end (x ∷ rest) walked none = absurd (omega (arith, none))
 -- what is left begins with no attribute
 pub walk_broken : {width : Width} {v6 : Bool} {field text : List ℕ} {marks : List Bool} {held : Values} → IsWalked width v6 field text marks held → attribute_front text ≡ None → 0 < length text → IsFirstFault width v6 field MALFORMED_ATTRIBUTE_LIST
 walk_broken {text = text} walked none some = record {
-    before = walked.before; front = walked.front; rest = text; parts = walked.parts; good = walked.good;
-    fault = inl (record { some = some; broken = broken }, refl) }
+  before = walked.before;
+  front = walked.front;
+  rest = text;
+  parts = walked.parts;
+  good = walked.good;
+  fault = inl (record { some = some; broken = broken }, refl);
+}
   where
     broken : (a : Attribute) (more : List ℕ) → Begins SpellsAttribute text a more → ⊥
     broken a more b = let found = front_begins attribute_reads text more a b in cc
@@ -127,8 +138,13 @@ walk_broken {text = text} walked none some = record {
 pub walk_fails : {width : Width} {v6 : Bool} {field text : List ℕ} {marks : List Bool} {held : Values} (walked : IsWalked width v6 field text marks held) (rest : List ℕ) (a : Attribute) (sub : ℕ)
     → attribute_front text ≡ Some (a, rest) → FailsWith width v6 walked.before a sub → IsFirstFault width v6 field sub
 walk_fails {text = text} walked rest a sub found fails = record {
-    before = walked.before; front = walked.front; rest = text; parts = walked.parts; good = walked.good;
-    fault = inr (record { attribute = a; more = rest; begins = attribute_reads.taken text rest a found; fails = fails }) }
+  before = walked.before;
+  front = walked.front;
+  rest = text;
+  parts = walked.parts;
+  good = walked.good;
+  fault = inr (record { attribute = a; more = rest; begins = attribute_reads.taken text rest a found; fails = fails });
+}
 
 -- one more attribute is walked over, as the walk has its code and the values
 pub walk_on : {width : Width} {v6 : Bool} {field text : List ℕ} {marks : List Bool} {held : Values} → IsWalked width v6 field text marks held → (rest : List ℕ) (a : Attribute) (place : ℕ) (more : Values)

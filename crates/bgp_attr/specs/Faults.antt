@@ -1,5 +1,5 @@
 -- When attributes are well formed, and otherwise which fault counts (RFC 4271, section 6.3).
-use Rattle.std.specs.Prelude.{◌≡◌, ◌⊎◌, ◌<◌, ℕ, Bool, IsTrue, IfSome, List, [], ◌∷◌, ◌++◌, length, Option, Some, None}
+use Rattle.std.specs.Prelude.{◌≡◌, ◌⊎◌, ◌<◌, ℕ, Bool, IsTrue, IfSome, List, [], ◌∷◌, ◌++◌, length, None}
 use Rattle.urpf_base.specs.Lists.{Has, AreDistinct}
 use Rattle.urpf_base.specs.Series.{Begins, SpellsAll}
 use Rattle.as_path.specs.declared.widths.Width.{Width}
@@ -7,7 +7,6 @@ use Rattle.bgp_attr.specs.declared.attribute.TheConstants.{OPTIONAL, TRANSITIVE}
 use Rattle.bgp_attr.specs.declared.demands.Demand.{Demand}
 use Rattle.bgp_attr.specs.declared.demands.Demand.TheVariants.{New, Known, Flags, Length, Value}
 use Rattle.bgp_attr.specs.declared.subcodes.TheConstants.{MALFORMED_ATTRIBUTE_LIST, UNRECOGNIZED_WELL_KNOWN_ATTRIBUTE, ATTRIBUTE_FLAGS_ERROR, ATTRIBUTE_LENGTH_ERROR}
-use Rattle.bgp_attr.specs.declared.types.AttributeType.{AttributeType}
 use Rattle.bgp_attr.specs.Attribute.{Attribute, SpellsAttribute, has_flag, codes}
 use Rattle.bgp_attr.specs.Table.{Row, row, type_from, value_subcode}
 

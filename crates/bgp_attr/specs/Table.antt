@@ -1,12 +1,12 @@
 -- The table of attributes: the flags, the length and the value that each type asks for (RFC 4271, sections 4.3, 5 and 6.3; RFC 4760, sections 3, 4 and 7; RFC 6793, section 3).
-use Rattle.std.specs.Prelude.{◌≡◌, ◌≢◌, ◌⊎◌, ◌≤◌, ◌<◌, ℕ, ◌+◌, Bool, true, false, ◌&&◌, ◌==◌, IsTrue, if◌then◌else◌, List, [], ◌∷◌, length, drop, slice_index, find, Option, Some, None}
+use Rattle.std.specs.Prelude.{◌≡◌, ◌≢◌, ◌⊎◌, ◌≤◌, ◌<◌, ℕ, ◌+◌, Bool, true, false, ◌&&◌, ◌==◌, IsTrue, List, [], ◌∷◌, length, drop, slice_index, find, Option, Some, None}
 use Rattle.std.specs.Option.{option_map_or}
 use Rattle.byteorder.specs.Endian.{big_number}
 use Rattle.urpf_base.specs.Address.{Block}
 use Rattle.bgp_nlri.specs.Nlri.{SpellsPrefixes}
 use Rattle.bgp_nlri.specs.declared.family.Family.TheVariants as family
 use Rattle.as_path.specs.declared.widths.Width.{Width}
-use Rattle.as_path.specs.declared.widths.Width.TheVariants.{Two, Four}
+use Rattle.as_path.specs.declared.widths.Width.TheVariants.{Two}
 use Rattle.as_path.specs.Path.{Segment, IsPath, octets_per}
 use Rattle.bgp_attr.specs.declared.types.AttributeType.{AttributeType}
 use Rattle.bgp_attr.specs.declared.types.AttributeType.TheVariants.{Origin, AsPath, NextHop, MultiExitDisc, LocalPref, AtomicAggregate, Aggregator, MpReachNlri, MpUnreachNlri, As4Path, As4Aggregator}

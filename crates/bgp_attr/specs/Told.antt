@@ -1,5 +1,5 @@
 -- What a list of attributes tells the router.
-use Rattle.std.specs.Prelude.{◌≡◌, ◌<◌, ℕ, Bool, ◌==◌, if◌then◌else◌, is_some, List, [], ◌∷◌, length, drop, Option, Some, None, option_map}
+use Rattle.std.specs.Prelude.{◌≡◌, ◌<◌, ℕ, Bool, ◌==◌, if◌then◌else◌, is_some, List, [], length, drop, Option, Some, None, option_map}
 use Rattle.byteorder.specs.Endian.{big_number}
 use Rattle.as_path.specs.declared.widths.Width.{Width}
 use Rattle.as_path.specs.declared.widths.Width.TheVariants.{Two, Four}

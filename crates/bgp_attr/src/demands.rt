@@ -31,12 +31,7 @@ pub enum Demand {
 }
 
 /// The subcode of the first demand that the attribute does not meet. None where it meets all.
-pub fn fault_of(
-    attribute: &AttributeView,
-    is_repeated: bool,
-    width: Width,
-    v6: bool,
-) -> Option<u8>
+pub fn fault_of(attribute: &AttributeView, is_repeated: bool, width: Width, v6: bool) -> Option<u8>
     ensures new { IfNone result (is_repeated ≡ false) }
     ensures proper { IfNone result (IsProper width v6 attribute.now) }
     ensures fault { (before : List Attribute)

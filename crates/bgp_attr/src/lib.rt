@@ -17,6 +17,7 @@ mod values;
 mod walking;
 
 pub use attrs::{AttrFault, Attrs};
-pub use demands::Demand;
-pub use types::AttributeType;
 pub use walking::walk;
+
+#[cfg(test)]
+mod tests;

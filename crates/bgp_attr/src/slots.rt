@@ -26,7 +26,9 @@ impl<'a> Model for Slots<'a> {
 
     ghost Value = { Values };
 
-    ghost view = { λ s. values (option_copied s.origin) (option_copied s.path) (option_copied s.next_hop) (option_copied s.aggregator) (option_copied s.reach) (option_copied s.unreach) (option_copied s.as4) (option_copied s.as4_aggregator) };
+    ghost view = { λ s. values (option_copied s.origin) (option_copied s.path)
+        (option_copied s.next_hop) (option_copied s.aggregator) (option_copied s.reach)
+        (option_copied s.unreach) (option_copied s.as4) (option_copied s.as4_aggregator) };
 
     ghost invariant = { λ s. IfSome s.path (λ value. length value.now ≤ 65535)
         × IfSome s.as4 (λ value. length value.now ≤ 65535) };

@@ -1,3 +1,4 @@
+pub mod DecideLaws
 pub mod FaultLaws
 pub mod FrontLaws
 pub mod ValueLaws

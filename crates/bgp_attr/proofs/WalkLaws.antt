@@ -14,22 +14,27 @@ use Rattle.bgp_attr.specs.Slots.{Values, no_values, with_attribute, values_of}
 use Rattle.bgp_attr.proofs.FrontLaws.{attribute_reads}
 use Rattle.bgp_attr.proofs.ValueLaws.{values_of-more}
 
--- the field is attributes without a fault and the rest; the marks and the values are those of the attributes
-pub record IsWalked (width : Width) (v6 : Bool) (field rest : List ℕ) (marks : List Bool) (held : Values) : Type 0 where
+-- the field is attributes without a fault, and then the rest
+pub record StandsAt (width : Width) (v6 : Bool) (field rest : List ℕ) : Type 0 where
   pub before : List Attribute
   pub front : List ℕ
   pub parts : field ≡ front ++ rest
   pub good : AreAttributes width v6 front before
+
+-- the marks and the values are those of the attributes before the rest
+pub record IsWalked (width : Width) (v6 : Bool) (field rest : List ℕ) (marks : List Bool) (held : Values) : Type 0 where
+  pub place : StandsAt width v6 field rest
   pub room : length marks ≡ 256
-  pub marked : (code : ℕ) → code < 256 → IsTrue (get_or marks code false) ↔ Has (codes before) code
-  pub values : held ≡ values_of before
+  pub marked : (code : ℕ) → code < 256 → IsTrue (get_or marks code false) ↔ Has (codes place.before) code
+  pub values : held ≡ values_of place.before
+
+pub stands_first : (width : Width) (v6 : Bool) (field : List ℕ) → StandsAt width v6 field field
+stands_first width v6 field = record { before = []; front = []; parts = refl; good = record { spelled = refl; distinct = tt; proper = λ a has. absurd has } }
 
 walk_start : (width : Width) (v6 : Bool) (field : List ℕ) → IsWalked width v6 field field (replicate 256 false) no_values
+unfolding stands_first
 walk_start width v6 field = record {
-  before = [];
-  front = [];
-  parts = refl;
-  good = record { spelled = refl; distinct = tt; proper = λ a has. absurd has };
+  place = stands_first width v6 field;
   room = refl;
   marked = λ code within. (λ is_marked. unmarked code within is_marked, λ has. absurd has);
   values = refl;
@@ -94,40 +99,30 @@ mark_more before a marks room marked within code below = elim (eqb_tells code a.
   | inr other ↦ mark_other before a marks code other.1 (marked code below)
 ]
 
--- one more attribute is walked over
-pub walk_further : {width : Width} {v6 : Bool} {field text : List ℕ} {marks : List Bool} {held : Values} → IsWalked width v6 field text marks held → (rest : List ℕ) (a : Attribute)
-    → attribute_front text ≡ Some (a, rest) → a.code < 256 → get_or marks a.code false ≡ false → IsProper width v6 a → IsWalked width v6 field rest (set marks a.code true) (with_attribute a held)
-walk_further {width} {v6} {field} {text} {marks} {held} walked rest a found within unmarked proper =
+-- the rest begins with an attribute of a new type that is as the table asks
+pub stands_further : {width : Width} {v6 : Bool} {field text : List ℕ} (place : StandsAt width v6 field text) (rest : List ℕ) (a : Attribute) → attribute_front text ≡ Some (a, rest) → (Has (codes place.before) a.code → ⊥) → IsProper width v6 a → StandsAt width v6 field rest
+stands_further {width} {v6} {field} {text} place rest a found new proper =
     let b = attribute_reads.taken text rest a found in
-    let new = λ (has : Has (codes walked.before) a.code). is_marked (get_or marks a.code false) unmarked ((walked.marked a.code within).1 has) in
     record {
-      before = walked.before ++ a ∷ [];
-      front = walked.front ++ b.one;
-      parts = walked.parts ∙ ap (λ t. walked.front ++ t) b.parts ∙ sym (append_assoc walked.front b.one rest);
-      good = good_more width v6 walked.front b.one walked.before a walked.good b.spelled new proper;
-      room = length-set marks a.code true ∙ walked.room;
-      marked = mark_more walked.before a marks walked.room walked.marked within;
-      values = ap (with_attribute a) walked.values ∙ sym (values_of-more walked.before a new);
+      before = place.before ++ a ∷ [];
+      front = place.front ++ b.one;
+      parts = place.parts ∙ ap (λ t. place.front ++ t) b.parts ∙ sym (append_assoc place.front b.one rest);
+      good = good_more width v6 place.front b.one place.before a place.good b.spelled new proper;
     }
-  where
-    is_marked : (mark : Bool) → mark ≡ false → IsTrue mark → ⊥
-    is_marked mark unmarked_is marked_is = cc
 
 -- nothing is left: the field is the attributes
-pub walk_end : {width : Width} {v6 : Bool} {field : List ℕ} {marks : List Bool} {held : Values} (rest : List ℕ) → IsWalked width v6 field rest marks held → length rest ≡ 0
-    → (attributes : List Attribute) × AreAttributes width v6 field attributes × (held ≡ values_of attributes)
-walk_end {width} {v6} {field} [] walked none =
-    (walked.before, subst (λ (t : List ℕ). AreAttributes width v6 t walked.before) (sym (walked.parts ∙ append-nil walked.front)) walked.good, walked.values)
-walk_end (x ∷ rest) walked none = absurd (omega (arith, none))
+pub stands_last : {width : Width} {v6 : Bool} {field : List ℕ} (rest : List ℕ) (place : StandsAt width v6 field rest) → length rest ≡ 0 → AreAttributes width v6 field place.before
+stands_last {width} {v6} {field} [] place none = subst (λ (t : List ℕ). AreAttributes width v6 t place.before) (sym (place.parts ∙ append-nil place.front)) place.good
+stands_last (x ∷ rest) place none = absurd (omega (arith, none))
 
 -- what is left begins with no attribute
-pub walk_broken : {width : Width} {v6 : Bool} {field text : List ℕ} {marks : List Bool} {held : Values} → IsWalked width v6 field text marks held → attribute_front text ≡ None → 0 < length text → IsFirstFault width v6 field MALFORMED_ATTRIBUTE_LIST
-walk_broken {text = text} walked none some = record {
-  before = walked.before;
-  front = walked.front;
+pub stands_broken : {width : Width} {v6 : Bool} {field text : List ℕ} → StandsAt width v6 field text → attribute_front text ≡ None → 0 < length text → IsFirstFault width v6 field MALFORMED_ATTRIBUTE_LIST
+stands_broken {text = text} place none some = record {
+  before = place.before;
+  front = place.front;
   rest = text;
-  parts = walked.parts;
-  good = walked.good;
+  parts = place.parts;
+  good = place.good;
   fault = inl (record { some = some; broken = broken }, refl);
 }
   where
@@ -135,16 +130,32 @@ walk_broken {text = text} walked none some = record {
     broken a more b = let found = front_begins attribute_reads text more a b in cc
 
 -- what is left begins with an attribute that fails
-pub walk_fails : {width : Width} {v6 : Bool} {field text : List ℕ} {marks : List Bool} {held : Values} (walked : IsWalked width v6 field text marks held) (rest : List ℕ) (a : Attribute) (sub : ℕ)
-    → attribute_front text ≡ Some (a, rest) → FailsWith width v6 walked.before a sub → IsFirstFault width v6 field sub
-walk_fails {text = text} walked rest a sub found fails = record {
-  before = walked.before;
-  front = walked.front;
+pub stands_faulty : {width : Width} {v6 : Bool} {field text : List ℕ} (place : StandsAt width v6 field text) (rest : List ℕ) (a : Attribute) (sub : ℕ) → attribute_front text ≡ Some (a, rest) → FailsWith width v6 place.before a sub → IsFirstFault width v6 field sub
+stands_faulty {text = text} place rest a sub found fails = record {
+  before = place.before;
+  front = place.front;
   rest = text;
-  parts = walked.parts;
-  good = walked.good;
+  parts = place.parts;
+  good = place.good;
   fault = inr (record { attribute = a; more = rest; begins = attribute_reads.taken text rest a found; fails = fails });
 }
+
+-- one more attribute is walked over
+walk_further : {width : Width} {v6 : Bool} {field text : List ℕ} {marks : List Bool} {held : Values} → IsWalked width v6 field text marks held → (rest : List ℕ) (a : Attribute)
+    → attribute_front text ≡ Some (a, rest) → a.code < 256 → get_or marks a.code false ≡ false → IsProper width v6 a → IsWalked width v6 field rest (set marks a.code true) (with_attribute a held)
+unfolding stands_further
+walk_further {width} {v6} {field} {text} {marks} {held} walked rest a found within unmarked proper =
+    let before = walked.place.before in
+    let new = λ (has : Has (codes before) a.code). is_marked (get_or marks a.code false) unmarked ((walked.marked a.code within).1 has) in
+    record {
+      place = stands_further walked.place rest a found new proper;
+      room = length-set marks a.code true ∙ walked.room;
+      marked = mark_more before a marks walked.room walked.marked within;
+      values = ap (with_attribute a) walked.values ∙ sym (values_of-more before a new);
+    }
+  where
+    is_marked : (mark : Bool) → mark ≡ false → IsTrue mark → ⊥
+    is_marked mark unmarked_is marked_is = cc
 
 -- one more attribute is walked over, as the walk has its code and the values
 pub walk_on : {width : Width} {v6 : Bool} {field text : List ℕ} {marks : List Bool} {held : Values} → IsWalked width v6 field text marks held → (rest : List ℕ) (a : Attribute) (place : ℕ) (more : Values)
@@ -157,6 +168,6 @@ walk_on {width} {v6} {field} {text} {marks} {held} walked rest a place more foun
 
 -- the mark of a code tells whether it came before
 pub mark_tells : {width : Width} {v6 : Bool} {field text : List ℕ} {marks : List Bool} {held : Values} (walked : IsWalked width v6 field text marks held) (code place : ℕ) → place < 256 → place ≡ code
-    → IsTrue (get_or marks place false) ↔ Has (codes walked.before) code
+    → IsTrue (get_or marks place false) ↔ Has (codes walked.place.before) code
 mark_tells {marks = marks} walked code place within same =
-    subst (λ (n : ℕ). IsTrue (get_or marks n false) ↔ Has (codes walked.before) code) (sym same) (walked.marked code (omega (arith, same, within)))
+    subst (λ (n : ℕ). IsTrue (get_or marks n false) ↔ Has (codes walked.place.before) code) (sym same) (walked.marked code (omega (arith, same, within)))

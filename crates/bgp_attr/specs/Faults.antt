@@ -95,3 +95,8 @@ pub record IsFirstFault (width : Width) (v6 : Bool) (field : List ℕ) (sub : �
   pub parts : field ≡ front ++ rest
   pub good : AreAttributes width v6 front before
   pub fault : StopsWith width v6 before rest sub
+
+-- the field is attributes as the table asks, or it has a first fault
+abbrev pub HasOutcome : Width → Bool → List ℕ → Type 0
+HasOutcome width v6 field =
+    ((attributes : List Attribute) × AreAttributes width v6 field attributes) ⊎ ((sub : ℕ) × IsFirstFault width v6 field sub)

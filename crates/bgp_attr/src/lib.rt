@@ -10,6 +10,7 @@
 mod attribute;
 mod attrs;
 mod demands;
+mod laws;
 mod slots;
 mod subcodes;
 mod types;
@@ -17,6 +18,7 @@ mod values;
 mod walking;
 
 pub use attrs::{AttrFault, Attrs};
+pub use laws::one_outcome;
 pub use walking::walk;
 
 #[cfg(test)]

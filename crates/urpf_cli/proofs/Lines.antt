@@ -1,7 +1,8 @@
 -- The line of a check out of a table of routes, and words out of their places.
-use Rattle.std.proofs.Common.{◌≡◌, ◌<◌, ℕ, ◌+◌, ◌≤◌, List, [], ◌∷◌, ◌++◌, length, get_or, Bool, true, false, Option, Some, None, ap, sym, ◌∙◌, arith, refl, append_assoc}
+use Rattle.std.proofs.Common.{◌≡◌, ◌<◌, ℕ, ◌+◌, ◌≤◌, List, [], ◌∷◌, ◌++◌, length, take, get_or, Bool, true, false, Option, Some, None, ap, sym, ◌∙◌, arith, refl, append_assoc}
 use Rattle.std.specs.Prelude.{not}
 use Rattle.std.specs.Str.{bytes_eq}
+use Rattle.std.proofs.lemmas.List.{take_more}
 use Rattle.std.proofs.lemmas.Slice.Eq.{bytes_eq-Decides}
 use Rattle.std.specs.Prelude.{◌↔◌, IsSome}
 use Rattle.urpf_base.specs.declared.address.Addr.{Addr}
@@ -71,3 +72,9 @@ updates_of-update (Some v ∷ ss) u = ap (λ us. v ∷ us) (updates_of-update ss
 pub held_next : (ss : List (Option RouteUpdate)) (s : Option RouteUpdate) (old new : Routes) → HoldsRoutes (updates_of ss) old → Follows s old new → HoldsRoutes (updates_of (ss ++ s ∷ [])) new
 held_next ss None old new held follows = rw (updates_of-keepalive ss, follows) held
 held_next ss (Some u) old new held follows = rw (updates_of-update ss u) (holds_one_more (updates_of ss) u old new held follows)
+
+-- the same where the items are a list and one more of them was taken
+pub held_more : (items : List (Option RouteUpdate)) (i : ℕ) (item seen : Option RouteUpdate) (old new : Routes) → i < length items → item ≡ get_or items i item → seen ≡ item → HoldsRoutes (updates_of (take i items)) old → Follows seen old new → HoldsRoutes (updates_of (take (i + 1) items)) new
+held_more items i item seen old new within is same held follows =
+    let more : take (i + 1) items ≡ take i items ++ seen ∷ [] = take_more items i item within ∙ ap (λ s. take i items ++ s ∷ []) (sym is ∙ sym same) in
+    rw more (held_next (take i items) seen old new held follows)

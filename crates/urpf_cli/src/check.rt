@@ -90,7 +90,7 @@ fn judge(alloc: Global, stream: &[u8], source: &Addr, line: &mut Line) -> Result
         Err(fault) => return Err(status_of(fault)),
     };
     let mut rib = AdjRib::new(alloc);
-    if take_all(&mut rib, &session.items).is_err() {
+    if let Err(OutOfMemory) = take_all(&mut rib, &session.items) {
         return Err(Status::OutOfMemory);
     }
     let passes = rib.any_covers(source);

@@ -32,7 +32,8 @@ abbrev number : Addr → ℕ
 number (V4 a) = a
 number (V6 a) = a
 
-numbered : (a b : Addr) (o : Ordering) → ordering_then (nat_cmp (family a) (family b)) (ordering_then (nat_cmp (number a) (number b)) o) ≡ ordering_then (addr_order a b) o
+numbered : (a b : Addr) (o : Ordering)
+    → ordering_then (nat_cmp (family a) (family b)) (ordering_then (nat_cmp (number a) (number b)) o) ≡ ordering_then (addr_order a b) o
 numbered (V4 a) (V4 b) o = refl
 numbered (V4 a) (V6 b) o = refl
 numbered (V6 a) (V4 b) o = refl

@@ -31,7 +31,8 @@ has_held routes p = (
 )
 
 -- after the first of the pairs after a prefix come those after its own prefix
-pub pairs_after-first : (start : Option Block) (routes : Routes) (r : Pair) (t : List Pair) → pairs_after start routes ≡ r ∷ t → pairs_after start routes ≡ r ∷ pairs_after (Some r.0) routes
+pub pairs_after-first : (start : Option Block) (routes : Routes) (r : Pair) (t : List Pair) → pairs_after start routes ≡ r ∷ t
+    → pairs_after start routes ≡ r ∷ pairs_after (Some r.0) routes
 pairs_after-first start routes r t is = is ∙ ap (λ l. r ∷ l) (sym (walk start (pairs_of routes) r t (ascending routes) is))
 
 -- the pairs are what the map has

@@ -84,7 +84,8 @@ module _ {K X : Type 0} {R : K → K → Ordering} (o : IsTotalOrder R) where
   found (e ∷ es) k (inl same) = some_first _ _ _ (ap is_eq (subst (λ z. R k z ≡ Equal) same (tied_itself o k)))
   found (e ∷ es) k (inr later) = some_later _ _ _ (found es k later)
 
-  found_by : IsAntisymmetric R → (e : K × X) (es : List (K × X)) (k : K) (r : Ordering) → R k e.0 ≡ r → (IsSome (find R k es) → Has (map (λ d. d.0) es) k) → IsSome (cond (is_eq r) (Some e.1) (find R k es)) → (k ≡ e.0) ⊎ Has (map (λ d. d.0) es) k
+  found_by : IsAntisymmetric R → (e : K × X) (es : List (K × X)) (k : K) (r : Ordering) → R k e.0 ≡ r → (IsSome (find R k es)
+      → Has (map (λ d. d.0) es) k) → IsSome (cond (is_eq r) (Some e.1) (find R k es)) → (k ≡ e.0) ⊎ Has (map (λ d. d.0) es) k
   found_by ties e es k Less is later h = inr (later h)
   found_by ties e es k Equal is later h = inl (ties k e.0 is)
   found_by ties e es k Greater is later h = inr (later h)
@@ -126,7 +127,8 @@ module _ {K X : Type 0} {R : K → K → Ordering} (o : IsTotalOrder R) where
       let behind : R e.0 k ≡ Less = all_at (λ z. R e.0 z ≡ Less) es k (head_below R e es h) (has_key es k v later) in
       other_first _ e.1 (find R k es) (past o e.0 k behind) ∙ pair_found es k v (tail_sorted R e es h) later
 
-  only_pair_by : IsAntisymmetric R → (e : K × X) (es : List (K × X)) (k : K) (v : X) (r : Ordering) → R k e.0 ≡ r → (find R k es ≡ Some v → Has es (k, v)) → cond (is_eq r) (Some e.1) (find R k es) ≡ Some v → ((k, v) ≡ e) ⊎ Has es (k, v)
+  only_pair_by : IsAntisymmetric R → (e : K × X) (es : List (K × X)) (k : K) (v : X) (r : Ordering) → R k e.0 ≡ r
+      → (find R k es ≡ Some v → Has es (k, v)) → cond (is_eq r) (Some e.1) (find R k es) ≡ Some v → ((k, v) ≡ e) ⊎ Has es (k, v)
   only_pair_by ties e es k v Less is later h = inr (later h)
   only_pair_by ties e es k v Equal is later h = let value : v ≡ e.1 = cc in inl (λ i. (ties k e.0 is i, value i))
   only_pair_by ties e es k v Greater is later h = inr (later h)

@@ -37,7 +37,9 @@ pub first_has : (start : Option Block) (es : List Pair) (r : Pair) (t : List Pai
 first_has start [] r t is = cc
 first_has start (e ∷ es) r t is = by (is_after start e.0) refl is (first_has start es r t)
   where
-    by : (b : Bool) → is_after start e.0 ≡ b → cond b (e ∷ after_in start es) (after_in start es) ≡ r ∷ t → (after_in start es ≡ r ∷ t → Has es r × (is_after start r.0 ≡ true)) → ((r ≡ e) ⊎ Has es r) × (is_after start r.0 ≡ true)
+    by : (b : Bool) → is_after start e.0 ≡ b → cond b (e ∷ after_in start es) (after_in start es) ≡ r ∷ t
+        → (after_in start es ≡ r ∷ t → Has es r × (is_after start r.0 ≡ true))
+        → ((r ≡ e) ⊎ Has es r) × (is_after start r.0 ≡ true)
     by true at is later = let same : e ≡ r = cc in (inl (sym same), subst (λ (s : Pair). is_after start s.0 ≡ true) same at)
     by false at is later = let more : Has es r × (is_after start r.0 ≡ true) = later is in (inr more.0, more.1)
 

@@ -39,7 +39,8 @@ pub record IsCut (rest line after : List ℕ) : Type 0 where
 pub started : (text : List ℕ) → Reached text text 0 []
 started text = record { before = []; parts = refl; taken = tt; room = omega arith }
 
-pub skipped : (text rest line after : List ℕ) (number : ℕ) (rows : List Row) → Reached text rest number rows → IsCut rest line after → words_of line ≡ [] → Reached text after (number + 1) rows
+pub skipped : (text rest line after : List ℕ) (number : ℕ) (rows : List Row) → Reached text rest number rows
+    → IsCut rest line after → words_of line ≡ [] → Reached text after (number + 1) rows
 skipped text rest line after number rows r cut none = record {
   before = r.before;
   parts =
@@ -60,13 +61,15 @@ from_words text rest line after number rows r cut some =
     r.parts
     ∙ ap (λ ls. r.before ++ ls) (cut.parts (number + 1) ∙ ap (λ ls. ls ++ numbered_from (number + 1 + 1) (lines_of after)) (is_numbered (number + 1) (words_of line) some))
 
-taken_more : (lines : List Line) (rows : List Row) (line : Line) (row : Row) → AllZip IsTaken lines rows → IsTaken line row → AllZip IsTaken (lines ++ line ∷ []) (rows ++ row ∷ [])
+taken_more : (lines : List Line) (rows : List Row) (line : Line) (row : Row) → AllZip IsTaken lines rows → IsTaken line row
+    → AllZip IsTaken (lines ++ line ∷ []) (rows ++ row ∷ [])
 taken_more [] [] line row all one = (one, tt)
 taken_more [] (r ∷ rows) line row all one = absurd all
 taken_more (l ∷ lines) [] line row all one = absurd all
 taken_more (l ∷ lines) (r ∷ rows) line row all one = (all.0, taken_more lines rows line row all.1 one)
 
-pub added : (text rest line after : List ℕ) (number : ℕ) (rows : List Row) (one : BookLine) → Reached text rest number rows → IsCut rest line after → ¬ (words_of line ≡ []) → ComesTo (words_of line) (Ok one)
+pub added : (text rest line after : List ℕ) (number : ℕ) (rows : List Row) (one : BookLine) → Reached text rest number rows
+    → IsCut rest line after → ¬ (words_of line ≡ []) → ComesTo (words_of line) (Ok one)
     → Reached text after (number + 1) (rows ++ (number + 1, one) ∷ [])
 added text rest line after number rows one r cut some comes = record {
   before = r.before ++ (number + 1, words_of line) ∷ [];
@@ -109,7 +112,8 @@ same_rows (l ∷ lines) (r ∷ rows) (o ∷ others) all is = λ i. same_row l r 
 pub one_book : (text : List ℕ) (number : ℕ) (rows others : List Row) → Reached text [] number rows → IsBook text others → rows ≡ others
 one_book text number rows others r is = same_rows (numbered text) rows others (all_taken text number rows r) is
 
-no_refusal : (before behind : List Line) (line : Line) (rows : List Row) (kind : BookKind) → AllZip IsTaken (before ++ line ∷ behind) rows → IsJudged line.1 (Err kind) → ⊥
+no_refusal : (before behind : List Line) (line : Line) (rows : List Row) (kind : BookKind)
+    → AllZip IsTaken (before ++ line ∷ behind) rows → IsJudged line.1 (Err kind) → ⊥
 no_refusal [] behind line [] kind all refused = absurd all
 no_refusal [] behind line (r ∷ rows) kind all refused = let outcome = all.0.comes.only (Err kind) refused in cc
 no_refusal (b ∷ before) behind line [] kind all refused = absurd all
@@ -121,7 +125,8 @@ no_fault text number rows at kind r fault =
     no_refusal fault.before fault.behind (at, fault.words) rows kind (subst (λ ls. AllZip IsTaken ls rows) fault.parts (all_taken text number rows r)) fault.refused
 
 -- where a line is refused, and all before it were taken
-pub fault_found : (text rest line after : List ℕ) (number : ℕ) (rows : List Row) (kind : BookKind) → Reached text rest number rows → IsCut rest line after → ¬ (words_of line ≡ []) → ComesTo (words_of line) (Err kind)
+pub fault_found : (text rest line after : List ℕ) (number : ℕ) (rows : List Row) (kind : BookKind) → Reached text rest number rows
+    → IsCut rest line after → ¬ (words_of line ≡ []) → ComesTo (words_of line) (Err kind)
     → IsFirstFault text (number + 1) kind
 fault_found text rest line after number rows kind r cut some comes = record {
   before = r.before;
@@ -133,14 +138,16 @@ fault_found text rest line after number rows kind r cut some comes = record {
   refused = comes.found;
 }
 
-no_taking : (before behind : List Line) (line : Line) (others : List Row) (kind : BookKind) → AllZip IsLine (before ++ line ∷ behind) others → ComesTo line.1 (Err kind) → ⊥
+no_taking : (before behind : List Line) (line : Line) (others : List Row) (kind : BookKind)
+    → AllZip IsLine (before ++ line ∷ behind) others → ComesTo line.1 (Err kind) → ⊥
 no_taking [] behind line [] kind all comes = absurd all
 no_taking [] behind line (o ∷ others) kind all comes = let outcome = comes.only (Ok o.1) all.0.1 in cc
 no_taking (b ∷ before) behind line [] kind all comes = absurd all
 no_taking (b ∷ before) behind line (o ∷ others) kind all comes = no_taking before behind line others kind all.1 comes
 
 -- where a line is refused there is no book
-pub no_book : (text rest line after : List ℕ) (number : ℕ) (rows others : List Row) (kind : BookKind) → Reached text rest number rows → IsCut rest line after → ¬ (words_of line ≡ []) → ComesTo (words_of line) (Err kind)
+pub no_book : (text rest line after : List ℕ) (number : ℕ) (rows others : List Row) (kind : BookKind)
+    → Reached text rest number rows → IsCut rest line after → ¬ (words_of line ≡ []) → ComesTo (words_of line) (Err kind)
     → IsBook text others → ⊥
 no_book text rest line after number rows others kind r cut some comes is =
     no_taking r.before _ (number + 1, words_of line) others kind (subst (λ ls. AllZip IsLine ls others) (from_words text rest line after number rows r cut some) is) comes
@@ -174,7 +181,8 @@ same_refusal (b ∷ before) (b' ∷ before') behind behind' x y (r ∷ rows) (r'
     same_refusal before before' behind behind' x y rows rows' kind kind' (tail e) all.1 all'.1 comes refused
 
 -- where a line is refused, and all before it were taken, no other is the first refused
-pub one_fault : (text rest line after : List ℕ) (number : ℕ) (rows : List Row) (kind : BookKind) (at : ℕ) (other : BookKind) → Reached text rest number rows → IsCut rest line after → ¬ (words_of line ≡ []) → ComesTo (words_of line) (Err kind)
+pub one_fault : (text rest line after : List ℕ) (number : ℕ) (rows : List Row) (kind : BookKind) (at : ℕ) (other : BookKind)
+    → Reached text rest number rows → IsCut rest line after → ¬ (words_of line ≡ []) → ComesTo (words_of line) (Err kind)
     → IsFirstFault text at other → (at ≡ number + 1) × (kind ≡ other)
 one_fault text rest line after number rows kind at other r cut some comes fault =
     same_refusal r.before fault.before _ fault.behind (number + 1, words_of line) (at, fault.words) rows fault.rows kind other
@@ -189,5 +197,6 @@ pub reached_end : (text rest : List ℕ) (number : ℕ) (rows : List Row) → (l
 reached_end text rest number rows none r = subst (λ t. Reached text t number rows) (nothing rest none) r
 
 -- what is known of an outcome that was found, by its form
-pub comes_to : (words : List (List ℕ)) (outcome form : Result BookLine BookKind) → IsJudged words outcome → ((other : Result BookLine BookKind) → IsJudged words other → outcome ≡ other) → outcome ≡ form → ComesTo words form
+pub comes_to : (words : List (List ℕ)) (outcome form : Result BookLine BookKind) → IsJudged words outcome
+    → ((other : Result BookLine BookKind) → IsJudged words other → outcome ≡ other) → outcome ≡ form → ComesTo words form
 comes_to words outcome form found only is = subst (ComesTo words) is (record { found = found; only = only })

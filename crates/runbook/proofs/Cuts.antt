@@ -1,8 +1,8 @@
 -- What stands before and behind a cut: the words of a text and its lines.
-use Rattle.std.proofs.Common.{◌≡◌, ℕ, zero, suc, ◌+◌, ◌<◌, ◌==◌, Bool, true, false, cond, not, List, [], ◌∷◌, ◌++◌, length, take, drop, refl, sym, ap, subst, ◌∙◌, arith}
+use Rattle.std.proofs.Common.{◌≡◌, ℕ, suc, ◌+◌, ◌==◌, Bool, true, false, cond, not, List, [], ◌∷◌, ◌++◌, length, take, drop, refl, sym, ap, subst, ◌∙◌, arith}
 use Rattle.std.specs.List.{slice_split, onto_first, position_or_len, prefix_len, filter}
 use Rattle.std.proofs.lemmas.List.Splits.{slice_split-cons_yes, slice_split-cons_no}
-use Rattle.std.proofs.lemmas.Bool.{eqb-true, eqb-false}
+use Rattle.std.proofs.lemmas.Bool.{eqb-true}
 use Rattle.runbook.specs.Lines.{is_blank, is_word, words_in, words_of, ends_line, ended, lines_of, without_return, numbered_from, one_numbered}
 
 one_plus : (n : ℕ) → 1 + n ≡ suc n
@@ -38,7 +38,8 @@ split : (p : ℕ → Bool) (text : List ℕ) → IsSplitAt p text (position_or_l
 split p [] = record { fields = []; parts = refl; rest = refl; ends = λ e. refl; more = λ c cs e. cc }
 split p (c ∷ cs) = split_by p c cs (p c) refl (position_or_len p cs) (split p cs)
 
-blanks_by : (c : ℕ) (cs : List ℕ) (b : Bool) → is_blank c ≡ b → (n : ℕ) → words_in (drop n cs) ≡ words_in cs → words_in (drop (cond b (1 + n) 0) (c ∷ cs)) ≡ words_in (c ∷ cs)
+blanks_by : (c : ℕ) (cs : List ℕ) (b : Bool) → is_blank c ≡ b → (n : ℕ) → words_in (drop n cs) ≡ words_in cs
+    → words_in (drop (cond b (1 + n) 0) (c ∷ cs)) ≡ words_in (c ∷ cs)
 blanks_by c cs true is n h =
     ap (λ k. words_in (drop k (c ∷ cs))) (one_plus n) ∙ h ∙ sym (ap (filter is_word) (slice_split-cons_yes is_blank c cs is))
 blanks_by c cs false is n h = refl
@@ -48,7 +49,8 @@ blanks_dropped : (text : List ℕ) → words_in (drop (prefix_len is_blank text)
 blanks_dropped [] = refl
 blanks_dropped (c ∷ cs) = blanks_by c cs (is_blank c) refl (prefix_len is_blank cs) (blanks_dropped cs)
 
-begins_by : (c : ℕ) (cs : List ℕ) (b : Bool) → is_blank c ≡ b → (n d : ℕ) (ds : List ℕ) → (drop n cs ≡ d ∷ ds → is_blank d ≡ false) → drop (cond b (1 + n) 0) (c ∷ cs) ≡ d ∷ ds → is_blank d ≡ false
+begins_by : (c : ℕ) (cs : List ℕ) (b : Bool) → is_blank c ≡ b → (n d : ℕ) (ds : List ℕ) → (drop n cs ≡ d ∷ ds
+    → is_blank d ≡ false) → drop (cond b (1 + n) 0) (c ∷ cs) ≡ d ∷ ds → is_blank d ≡ false
 begins_by c cs true is n d ds h e = h (ap (λ k. drop k (c ∷ cs)) (sym (one_plus n)) ∙ e)
 begins_by c cs false is n d ds h e = let same : c ≡ d = cc in ap is_blank (sym same) ∙ is
 
@@ -100,7 +102,8 @@ last_line text line [] n number place front back none =
 last_line text line (c ∷ cs) n number place front back none = let zero_length : length (c ∷ cs) ≡ 0 = eqb-true _ _ none in absurd (omega arith)
 
 -- the text up to the line feed is a line, and behind the line feed the next begins
-pub one_line : (text line after rest : List ℕ) (n number : ℕ) → n ≡ position_or_len ends_line text → line ≡ take n text → after ≡ drop n text → (length after == 0) ≡ false → rest ≡ drop 1 after
+pub one_line : (text line after rest : List ℕ) (n number : ℕ) → n ≡ position_or_len ends_line text → line ≡ take n text
+    → after ≡ drop n text → (length after == 0) ≡ false → rest ≡ drop 1 after
     → numbered_from number (lines_of text) ≡ one_numbered number (words_of (without_return line)) ++ numbered_from (number + 1) (lines_of rest)
 one_line text line [] rest n number place front back some behind = cc
 one_line text line (c ∷ cs) rest n number place front back some behind =

@@ -1,6 +1,5 @@
 -- The fault that an answer names.
 use Rattle.std.proofs.Common.{◌≡◌, ℕ, List, Result, Ok, Err, ap, sym}
-use Rattle.runbook.specs.declared.book.BookFault.{BookFault}
 use Rattle.runbook.specs.declared.book.ReadBook.{ReadBook}
 use Rattle.runbook.specs.declared.book.ReadBook.TheVariants.{Bad, OutOfMemory}
 use Rattle.runbook.specs.declared.lines.BookKind.{BookKind}

@@ -1,5 +1,5 @@
 -- Words that say one thing say nothing else.
-use Rattle.std.proofs.Common.{◌≡◌, ℕ, ◌+◌, ◌^◌, ◌<◌, ◌≤◌, List, [], ◌∷◌, length, Option, Some, None, refl, sym, ap, subst, ◌∙◌, arith}
+use Rattle.std.proofs.Common.{◌≡◌, ℕ, ◌^◌, ◌<◌, ◌≤◌, List, [], ◌∷◌, length, Some, None, refl, sym, subst, ◌∙◌, arith}
 use Rattle.std.specs.Prelude.{codes, decimal, slice_index}
 use Rattle.ip_text.proofs.Decimals.{decimal_lacks}
 use Rattle.runbook.specs.declared.saying.Said.{Said}

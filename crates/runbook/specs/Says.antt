@@ -1,5 +1,5 @@
 -- What the words of a line say, and what becomes of it. Our own format.
-use Rattle.std.specs.Prelude.{◌≡◌, ◌⊎◌, ℕ, ◌==◌, ◌≤◌, List, [], ◌∷◌, Option, Some, None, Result, Ok, Err, codes, decimal, if◌then◌else◌}
+use Rattle.std.specs.Prelude.{◌≡◌, ◌⊎◌, ℕ, ◌==◌, ◌≤◌, List, [], ◌∷◌, Some, None, Result, Ok, Err, codes, decimal, if◌then◌else◌}
 use Rattle.ip_text.specs.Texts.{SpellsAddr}
 use Rattle.runbook.specs.declared.saying.Said.{Said}
 use Rattle.runbook.specs.declared.saying.Said.TheVariants as said

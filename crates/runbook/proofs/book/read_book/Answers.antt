@@ -1,4 +1,4 @@
-use Rattle.std.proofs.Common.{◌≡◌, ◌+◌, ◌++◌, ◌∷◌, [], true, Ok, Err, inl, inr, ap, sym, subst, ◌∙◌}
+use Rattle.std.proofs.Common.{◌≡◌, ◌+◌, Ok, Err, inl, ap, sym, subst, ◌∙◌}
 use Rattle.runbook.specs.Lines.{words_of}
 use Rattle.runbook.specs.Book.{IsFirstFault}
 use Rattle.runbook.proofs.Books.{ComesTo, IsCut, Reached, added, book_read, one_book, no_fault, fault_found, no_book, one_fault, reached_end, comes_to}

@@ -1,4 +1,4 @@
-use Rattle.std.proofs.Common.{◌≡◌, ◌+◌, ◌++◌, ap, sym, ◌∙◌}
+use Rattle.std.proofs.Common.{◌+◌, ◌++◌, ap, sym, ◌∙◌}
 use Rattle.runbook.specs.Lines.{lines_of, numbered_from, one_numbered, words_of}
 use Rattle.runbook.proofs.Cuts.{last_line, one_line}
 use Rattle.runbook.proofs.cutting.first_line.Goals as goal

@@ -99,6 +99,13 @@ impl Control {
         Ok((self.number, cells))
     }
 
+    /// The number of the last publication.
+    pub fn number(&self) -> u64
+        ensures { result ≡ self.now.number }
+    {
+        self.number
+    }
+
     /// Whether a prefix of the last publication covers the address.
     pub fn judge(&self, addr: &Addr) -> Verdict
         ensures pass { result ≡ Verdict.Pass

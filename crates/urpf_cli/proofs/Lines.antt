@@ -1,8 +1,9 @@
 -- The line of a check out of a table of routes, and words out of their places.
-use Rattle.std.proofs.Common.{◌≡◌, ◌<◌, ℕ, ◌+◌, ◌≤◌, List, [], ◌∷◌, ◌++◌, length, take, get_or, Bool, true, false, Option, Some, None, ap, sym, ◌∙◌, arith, refl, append_assoc}
+use Rattle.std.proofs.Common.{◌≡◌, ◌<◌, ℕ, ◌+◌, ◌≤◌, List, [], ◌∷◌, ◌++◌, length, take, drop, get_or, Bool, true, false, Option, Some, None, ap, sym, ◌∙◌, arith, refl, append_assoc}
 use Rattle.std.specs.Prelude.{not}
 use Rattle.std.specs.Str.{bytes_eq}
 use Rattle.std.proofs.lemmas.List.{take_more}
+use Rattle.std.proofs.Math.Seq.{take-add}
 use Rattle.std.proofs.lemmas.Slice.Eq.{bytes_eq-Decides}
 use Rattle.std.specs.Prelude.{◌↔◌, IsSome}
 use Rattle.urpf_base.specs.declared.address.Addr.{Addr}
@@ -78,3 +79,16 @@ pub held_more : (items : List (Option RouteUpdate)) (i : ℕ) (item seen : Optio
 held_more items i item seen old new within is same held follows =
     let more : take (i + 1) items ≡ take i items ++ seen ∷ [] = take_more items i item within ∙ ap (λ s. take i items ++ s ∷ []) (sym is ∙ sym same) in
     rw more (held_next (take i items) seen old new held follows)
+
+-- the same behind items that were taken before
+pub held_after : (said items : List (Option RouteUpdate)) (i : ℕ) (item seen : Option RouteUpdate) (old new : Routes) → i < length items → item ≡ get_or items i item → seen ≡ item → HoldsRoutes (updates_of (said ++ take i items)) old → Follows seen old new → HoldsRoutes (updates_of (said ++ take (i + 1) items)) new
+held_after said items i item seen old new within is same held follows =
+    let more : said ++ take (i + 1) items ≡ (said ++ take i items) ++ seen ∷ [] =
+    ap (λ t. said ++ t) (take_more items i item within ∙ ap (λ s. take i items ++ s ∷ []) (sym is ∙ sym same)) ∙ sym (append_assoc said (take i items) (seen ∷ [])) in
+    rw more (held_next (said ++ take i items) seen old new held follows)
+
+-- the items taken before and the next ones are the items up to there
+pub held_upto : (items : List (Option RouteUpdate)) (taken count : ℕ) (left next : List (Option RouteUpdate)) (routes : Routes) → left ≡ drop taken items → next ≡ take count left → HoldsRoutes (updates_of (take taken items ++ next)) routes → HoldsRoutes (updates_of (take (taken + count) items)) routes
+held_upto items taken count left next routes is_left is_next held =
+    let same : take (taken + count) items ≡ take taken items ++ next = take-add taken count items ∙ ap (λ t. take taken items ++ t) (ap (take count) (sym is_left) ∙ sym is_next) in
+    rw same held

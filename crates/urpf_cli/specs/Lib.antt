@@ -1,3 +1,6 @@
 pub mod CheckOne
+pub mod Pulls
+pub mod RunText
+pub mod Running
 pub mod Session
 pub mod StatusText

@@ -3,6 +3,7 @@
 
 mod adapters;
 mod check;
+mod run;
 mod session;
 mod status;
 mod status_text;

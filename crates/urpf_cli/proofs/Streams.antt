@@ -1,19 +1,19 @@
 -- How far the reading of a stream has come, and what each step makes of it.
-use Rattle.std.proofs.Common.{◌≡◌, ◌⊎◌, ℕ, suc, ◌+◌, ◌<◌, ◌≤◌, List, [], ◌∷◌, ◌++◌, length, take, drop, Option, Some, None, Result, Ok, Err, false, refl, inl, inr, ap, sym, ◌∙◌, append_assoc, length-append, arith}
+use Rattle.std.proofs.Common.{◌≡◌, ℕ, suc, ◌+◌, ◌<◌, ◌≤◌, List, [], ◌∷◌, ◌++◌, length, take, drop, Option, Some, None, Result, Ok, Err, false, refl, inl, inr, ap, sym, ◌∙◌, append_assoc, length-append, arith}
 use Rattle.std.specs.List.{concat, AllByRecursion}
 use Rattle.std.specs.Prelude.{is_ok, is_err, if◌then◌else◌}
 use Rattle.std.proofs.lemmas.List.{take-append-drop, take_all}
 use Rattle.std.proofs.lemmas.List.Folds.{concat-append}
 use Rattle.urpf_base.specs.RouteUpdates.{RouteUpdate}
 use Rattle.bgp_wire.specs.Header.{header_fault, type_field}
-use Rattle.bgp_wire.specs.Frames.{IsMessage, IsShort, IsFaulty, Frames, Framing, End, Clean, Fault}
+use Rattle.bgp_wire.specs.Frames.{IsMessage, IsShort, IsFaulty}
 use Rattle.bgp_wire.specs.States.{kind_of}
 use Rattle.bgp_wire.specs.declared.kinds.MsgKind.{MsgKind}
-use Rattle.bgp_wire.specs.declared.kinds.MsgKind.TheVariants.{Update, Keepalive}
+use Rattle.bgp_wire.specs.declared.kinds.MsgKind.TheVariants.{Update}
 use Rattle.bgp_update.specs.Plain.{IsPlain}
 use Rattle.bgp_wire.proofs.Headers.{header_fault-append}
 use Rattle.bgp_wire.proofs.Framings.{has_framing, lt_or_le}
-use Rattle.urpf_cli.specs.Session.{Says, SaysBy, SayAll, IsRead, IsFaultAt, IsStrangeAt, Leaves}
+use Rattle.urpf_cli.specs.Session.{Says, SaysBy, SayAll, IsFaultAt, IsStrangeAt, Leaves}
 
 -- the messages in front were read, and said this
 pub record Progress (stream rest : List ℕ) (said : List (Option RouteUpdate)) : Type 0 where

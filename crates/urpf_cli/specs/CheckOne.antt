@@ -1,5 +1,5 @@
 -- What `check` answers and writes. Our own choice, over the definitions of the protocol.
-use Rattle.std.specs.Prelude.{◌≡◌, ℕ, ◌<◌, ◌≤◌, List, [], ◌∷◌, ◌++◌, length, Option, Some, None, Bool, IsTrue, ◌↔◌, codes}
+use Rattle.std.specs.Prelude.{◌≡◌, ℕ, ◌<◌, ◌≤◌, List, [], ◌∷◌, ◌++◌, length, Option, Bool, IsTrue, ◌↔◌, codes}
 use Rattle.std.specs.Io.KnownBytes.{Appends}
 use Rattle.urpf_base.specs.declared.address.Addr.{Addr}
 use Rattle.urpf_base.specs.Address.{Block, Covers}

@@ -1,10 +1,8 @@
 -- How a run in progress stands to the positions of its runbook, and what it has written. Our own choice.
-use Rattle.std.specs.Prelude.{◌≡◌, ◌⊎◌, ℕ, ◌+◌, ◌≤◌, Bool, false, List, [], ◌++◌, length, take, Option}
+use Rattle.std.specs.Prelude.{◌≡◌, ◌⊎◌, ℕ, ◌≤◌, List, [], ◌++◌, length, take}
 use Rattle.std.specs.List.{concat}
-use Rattle.std.specs.Io.KnownBytes.{Appends}
 use Rattle.report_text.specs.Lines.{done_line}
 use Rattle.runbook.specs.declared.lines.BookLine.{BookLine}
-use Rattle.control_core.specs.Standing.{Standing}
 use Rattle.control_core.specs.Table.{HoldsRoutes}
 use Rattle.urpf_cli.specs.declared.session.Session.{Session}
 use Rattle.urpf_cli.specs.declared.run.Run.{Run}

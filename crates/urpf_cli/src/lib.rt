@@ -7,6 +7,7 @@ mod run;
 mod session;
 mod status;
 mod status_text;
+mod steps;
 mod words;
 
 pub use adapters::{FileSource, OutSink};

@@ -1,4 +1,4 @@
-use Rattle.std.proofs.Common.{Some, map, inl, inr, refl, arith}
+use Rattle.std.proofs.Common.{map, inl, inr, refl, arith}
 use Rattle.std.specs.Prelude.{string_bytes}
 use Rattle.urpf_cli.proofs.Fates.{usage_alone, fate_alone, refused_alone, line_fate, front_written, line_written}
 use Rattle.urpf_cli.specs.declared.status.Status.TheVariants.{Done}

@@ -1,4 +1,3 @@
-use Rattle.std.proofs.Common.{take}
 use Rattle.urpf_cli.proofs.Lines.{held_more}
 use Rattle.urpf_cli.proofs.check.take_all.Goals as goal
 

@@ -1,4 +1,4 @@
-use Rattle.std.proofs.Common.{take, ap, ◌∙◌}
+use Rattle.std.proofs.Common.{take}
 use Rattle.urpf_cli.proofs.Lines.{held_upto}
 use Rattle.urpf_cli.proofs.run.pull.Goals as goal
 

@@ -1,4 +1,4 @@
-use Rattle.std.proofs.Common.{take, ◌∙◌}
+use Rattle.std.proofs.Common.{◌∙◌}
 use Rattle.urpf_cli.proofs.Lines.{held_after}
 use Rattle.urpf_cli.proofs.run.take_items.Goals as goal
 

@@ -1,4 +1,4 @@
-use Rattle.std.proofs.Common.{◌≡◌, ◌++◌, ℕ, List, Option, take}
+use Rattle.std.proofs.Common.{◌≡◌, ◌++◌, List, Option, take}
 use Rattle.urpf_base.specs.RouteUpdates.{RouteUpdate}
 use Rattle.control_core.specs.Table.{HoldsRoutes}
 use Rattle.urpf_cli.specs.Session.{updates_of}

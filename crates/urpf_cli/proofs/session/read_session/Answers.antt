@@ -1,5 +1,5 @@
-use Rattle.std.proofs.Common.{◌≡◌, Err, ◌+◌, ◌∙◌, ap, length, take, drop, arith, length-take, vec_len, sym}
-use Rattle.urpf_cli.proofs.Streams.{IsTaken, held_now, read_to_end, stopped_by_fault, stopped_by_strange, progress_more, taken_now, pushed_items}
+use Rattle.std.proofs.Common.{◌≡◌, Err, ◌+◌, ◌∙◌, ap, length, take, arith, length-take, sym}
+use Rattle.urpf_cli.proofs.Streams.{held_now, read_to_end, stopped_by_fault, stopped_by_strange, progress_more, taken_now, pushed_items}
 use Rattle.urpf_cli.specs.declared.session.SessionFault.TheVariants as SessionFault
 use Rattle.urpf_cli.proofs.session.read_session.Goals as goal
 

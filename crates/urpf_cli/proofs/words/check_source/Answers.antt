@@ -1,6 +1,5 @@
-use Rattle.std.proofs.Common.{List, ℕ, ◌∷◌, [], ◌∙◌, ap, map, sym, subst}
+use Rattle.std.proofs.Common.{List, ℕ, ◌∷◌, [], ◌∙◌, ap, map, sym}
 use Rattle.std.specs.Prelude.{codes, string_bytes}
-use Rattle.ip_text.specs.Texts.{SpellsAddr}
 use Rattle.urpf_cli.proofs.Lines.{three_items, not_unequal}
 use Rattle.urpf_cli.proofs.words.check_source.Goals as goal
 

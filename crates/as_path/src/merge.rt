@@ -1,5 +1,5 @@
-//! The path of a route from a peer of two-octet AS numbers, put together out of AS_PATH and AS4_PATH
-//! (RFC 6793, section 4.2.3), and the origin of that path (RFC 6811, section 2).
+//! The path of a route from a peer of two-octet AS numbers, put together out of AS_PATH and
+//! AS4_PATH (RFC 6793, section 4.2.3), and the origin of that path (RFC 6811, section 2).
 ghost use Rattle.std.specs.Prelude.{◌≡◌, nat_lt, length, option_copied};
 ghost use Rattle.as_path.specs.Hops.{hops, merged, origin, is_aggregated_anew};
 

@@ -48,7 +48,8 @@ put code attribute old = if attribute.code == code then Some attribute.value els
 abbrev pub with_attribute : Attribute → Values → Values
 with_attribute attribute old =
     values (put (code_of Origin) attribute old.origin) (put (code_of AsPath) attribute old.path) (put (code_of NextHop) attribute old.next_hop) (put (code_of Aggregator) attribute old.aggregator)
-    (put (code_of MpReachNlri) attribute old.reach) (put (code_of MpUnreachNlri) attribute old.unreach) (put (code_of As4Path) attribute old.as4) (put (code_of As4Aggregator) attribute old.as4_aggregator)
+    (put (code_of MpReachNlri) attribute old.reach) (put (code_of MpUnreachNlri) attribute old.unreach)
+    (put (code_of As4Path) attribute old.as4) (put (code_of As4Aggregator) attribute old.as4_aggregator)
 
 -- the values that are read further are as the table asks
 pub record AreFit (width : Width) (v6 : Bool) (held : Values) : Type 0 where

@@ -1,9 +1,9 @@
-//! The path attributes of an UPDATE (RFC 4271, section 4.3): the field that holds them comes in, and
-//! what the router needs of them, or the first fault of the field, goes out.
+//! The path attributes of an UPDATE (RFC 4271, section 4.3): the field that holds them comes in,
+//! and what the router needs of them, or the first fault of the field, goes out.
 //!
 //! ```text
 //! attributes = attribute ..
-//! attribute  = flags (1 octet), type (1), length (1, or 2 by a flag), value (as many as the length)
+//! attribute  = flags (1 octet), type (1), length (1, or 2 by a flag), value (so many octets)
 //! ```
 #![tactic(auto)]
 
@@ -11,6 +11,7 @@ mod attribute;
 mod attrs;
 mod demands;
 mod laws;
+mod numbers;
 mod slots;
 mod subcodes;
 mod types;

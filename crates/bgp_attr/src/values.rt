@@ -1,13 +1,13 @@
 //! What the value of an attribute has to be, by its type.
 ghost use Rattle.std.specs.Prelude.{◌≡◌, ◌↔◌, ◌≤◌, ◌⊎◌, IsTrue, List, length, slice_index};
-ghost use Rattle.byteorder.specs.Endian.{big_number};
+ghost use Rattle.bgp_attr.specs.Numbers.{number_of};
 ghost use Rattle.bgp_attr.specs.Faults.{HasLength};
 ghost use Rattle.bgp_attr.specs.Table.{row, IsOrigin, IsAsPath, IsNextHop, IsMpReach, IsMpUnreach, IsReach, is_ipv6_unicast, is_heeded, reach_place};
 
+use crate::numbers::{number_16, number_32};
 use crate::types::AttributeType;
 use as_path::{PathView, Width};
 use bgp_nlri::{Family, check};
-use byteorder::{BigEndian, ByteOrder};
 
 /// The greatest ORIGIN, INCOMPLETE.
 const INCOMPLETE: u8 = 2;
@@ -66,7 +66,7 @@ fn is_next_hop(value: &[u8]) -> bool
     requires { length value.now ≡ 4 }
     ensures { IsTrue result ↔ IsNextHop value.now }
 {
-    if BigEndian::read_u32(value) == 0 {
+    if number_32(value) == 0 {
         return false;
     }
     value[0] < MULTICAST
@@ -138,7 +138,7 @@ pub fn is_heeded(value: &[u8], v6: bool) -> bool
     if !v6 {
         return false;
     }
-    if BigEndian::read_u16(value) != IPV6 {
+    if number_16(value) != IPV6 {
         return false;
     }
     value[2] == UNICAST

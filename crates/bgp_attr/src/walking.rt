@@ -15,9 +15,9 @@ use crate::slots::Slots;
 use crate::subcodes::MALFORMED_ATTRIBUTE_LIST;
 use as_path::Width;
 
-/// What the attributes of the field tell, or the first fault of the field: the attributes are judged
-/// in their order, and each by whether it is whole, its type is new, its type is known or may be
-/// passed over, then by its flags, its length and its value.
+/// What the attributes of the field tell, or the first fault of the field: the attributes are
+/// judged in their order, and each by whether it is whole, its type is new, its type is known or
+/// may be passed over, then by its flags, its length and its value.
 ///
 /// `width` is that of AS numbers in AS_PATH and AGGREGATOR. `v6` says whether the peer listed IPv6
 /// unicast; from another the multiprotocol attributes are passed over.

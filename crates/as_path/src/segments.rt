@@ -35,8 +35,11 @@ pub struct Cut<'a> {
 /// The first segment of the path. None where the path is empty, the type is not known, the segment
 /// has no AS number, or the octets end before it does.
 pub fn first(path: &[u8], width: Width) -> Option<Cut<'_>>
-    ensures segment { option_map (λ c. (segment_from c.segment_type
-        (numbers_in width c.numbers.now), c.rest.now)) result ≡ segment_front width path.now }
+    ensures segment { option_map (λ c. (
+      segment_from c.segment_type
+          (numbers_in width c.numbers.now),
+      c.rest.now,
+    )) result ≡ segment_front width path.now }
     ensures whole { IfSome result (λ c. length c.numbers.now ≡ c.count * octets_per width) }
     ensures some { IfSome result (λ c. 0 < c.count) }
 {

@@ -1,5 +1,5 @@
 -- How a run in progress stands to the positions of its runbook, and what it has written. Our own choice.
-use Rattle.std.specs.Prelude.{◌≡◌, ◌⊎◌, ℕ, ◌+◌, ◌≤◌, List, [], ◌++◌, length, take, Option}
+use Rattle.std.specs.Prelude.{◌≡◌, ◌⊎◌, ℕ, ◌+◌, ◌≤◌, List, [], ◌++◌, length, take, map, Option}
 use Rattle.std.specs.List.{concat}
 use Rattle.std.specs.Io.KnownBytes.{Appends}
 use Rattle.report_text.specs.Lines.{done_line}
@@ -72,3 +72,7 @@ pub record WroteFront (inputs : Inputs) (lines : List BookLine) (old new : Optio
   pub octets : List ℕ
   pub is_front : IsRunFront inputs lines octets
   pub appended : Appends old new octets
+
+-- the lines of a runbook without their numbers
+abbrev pub lines_in : List (ℕ × BookLine) → List BookLine
+lines_in rows = map (λ row. row.1) rows

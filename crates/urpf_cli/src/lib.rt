@@ -8,6 +8,7 @@ mod session;
 mod status;
 mod status_text;
 mod steps;
+mod whole;
 mod words;
 
 pub use adapters::{FileSource, OutSink};

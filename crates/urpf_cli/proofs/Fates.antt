@@ -9,9 +9,9 @@ use Rattle.std.specs.Io.KnownBytes.{Appends}
 use Rattle.std.proofs.lemmas.List.{take-append-drop}
 use Rattle.urpf_cli.specs.CheckOne.{AreWords, IsCheckLine, Within, IsRefused, Fate, FitNoForm, Deserves, WritesFront, WritesLine}
 use Rattle.urpf_cli.specs.declared.check.TheConstants.{STREAM_OCTETS}
-use Rattle.urpf_cli.specs.declared.status.Object.TheVariants.{Stream}
+use Rattle.urpf_cli.specs.declared.status.Object.TheVariants.{Book, Stream}
 use Rattle.urpf_cli.specs.declared.status.Status.{Status}
-use Rattle.urpf_cli.specs.declared.status.Status.TheVariants.{Done, Usage, TooLong, ReadFault, WriteFault, BadSession, Unsupported, OutOfMemory}
+use Rattle.urpf_cli.specs.declared.status.Status.TheVariants.{Done, Usage, BadBook, TooLong, ReadFault, WriteFault, BadSession, Unsupported, OutOfMemory}
 
 -- a way to frame the stream
 abbrev framing : {stream rest : List ℕ} {messages : List (List ℕ)} {end : End} → Frames stream messages rest end → Framing stream
@@ -71,6 +71,8 @@ too_long_or_within stream long within = omega (arith, within.short)
 fate_done : (stream : List ℕ) (s : Status) → Fate stream Done → Fate stream s → Done ≡ s
 fate_done stream Done a b = refl
 fate_done stream Usage a b = absurd b
+fate_done stream (BadBook line kind) a b = absurd b
+fate_done stream (TooLong Book) a b = absurd b
 fate_done stream (TooLong Stream) a b = absurd (too_long_or_within stream b a)
 fate_done stream (ReadFault object) a b = absurd b
 fate_done stream WriteFault a b = absurd b
@@ -82,6 +84,8 @@ fate_done stream OutOfMemory a b = absurd b
 fate_too_long : (stream : List ℕ) (s : Status) → Fate stream (TooLong Stream) → Fate stream s → TooLong Stream ≡ s
 fate_too_long stream Done a b = absurd (too_long_or_within stream a b)
 fate_too_long stream Usage a b = absurd b
+fate_too_long stream (BadBook line kind) a b = absurd b
+fate_too_long stream (TooLong Book) a b = absurd b
 fate_too_long stream (TooLong Stream) a b = refl
 fate_too_long stream (ReadFault object) a b = absurd b
 fate_too_long stream WriteFault a b = absurd b
@@ -92,6 +96,8 @@ fate_too_long stream OutOfMemory a b = absurd b
 fate_bad : (stream : List ℕ) (code sub place : ℕ) (s : Status) → Fate stream (BadSession code sub place) → Fate stream s → BadSession code sub place ≡ s
 fate_bad stream code sub place Done a b = absurd (clean_or_faulty stream b.comes.0 b.comes.1 sub place b.comes.2 a.comes.1)
 fate_bad stream code sub place Usage a b = absurd b
+fate_bad stream code sub place (BadBook line kind) a b = absurd b
+fate_bad stream code sub place (TooLong Book) a b = absurd b
 fate_bad stream code sub place (TooLong Stream) a b = absurd (too_long_or_within stream b a)
 fate_bad stream code sub place (ReadFault object) a b = absurd b
 fate_bad stream code sub place WriteFault a b = absurd b
@@ -107,6 +113,8 @@ fate_unsupported : (stream : List ℕ) (place : ℕ) (s : Status) → Fate strea
 fate_unsupported stream place Done a b =
     let read = b.comes.2 in absurd (all_say stream place read.messages b.comes.0 b.comes.1 Clean read.framed read.say a.comes)
 fate_unsupported stream place Usage a b = absurd b
+fate_unsupported stream place (BadBook line kind) a b = absurd b
+fate_unsupported stream place (TooLong Book) a b = absurd b
 fate_unsupported stream place (TooLong Stream) a b = absurd (too_long_or_within stream b a)
 fate_unsupported stream place (ReadFault object) a b = absurd b
 fate_unsupported stream place WriteFault a b = absurd b
@@ -119,6 +127,8 @@ fate_unsupported stream place OutOfMemory a b = absurd b
 pub one_fate : (stream : List ℕ) (r s : Status) → Fate stream r → Fate stream s → r ≡ s
 one_fate stream Done s a b = fate_done stream s a b
 one_fate stream Usage s a b = absurd a
+one_fate stream (BadBook line kind) s a b = absurd a
+one_fate stream (TooLong Book) s a b = absurd a
 one_fate stream (TooLong Stream) s a b = fate_too_long stream s a b
 one_fate stream (ReadFault object) s a b = absurd a
 one_fate stream WriteFault s a b = absurd a
@@ -130,6 +140,7 @@ one_fate stream OutOfMemory s a b = absurd a
 one_answer : (words : List (List ℕ)) (stream : List ℕ) (source : Addr) (r s : Status) → AreWords words source → Fate stream r → Deserves words stream s → r ≡ s
 one_answer words stream source r Usage fit fate deserved = absurd (deserved source fit)
 one_answer words stream source r Done fit fate deserved = one_fate stream r Done fate deserved.1
+one_answer words stream source r (BadBook line kind) fit fate deserved = absurd deserved.1
 one_answer words stream source r (TooLong object) fit fate deserved = one_fate stream r (TooLong object) fate deserved.1
 one_answer words stream source r (ReadFault object) fit fate deserved = absurd deserved.1
 one_answer words stream source r WriteFault fit fate deserved = absurd deserved.1
@@ -140,6 +151,7 @@ one_answer words stream source r OutOfMemory fit fate deserved = absurd deserved
 no_form : (words : List (List ℕ)) (stream : List ℕ) (s : Status) → FitNoForm words → Deserves words stream s → Usage ≡ s
 no_form words stream Usage none deserved = refl
 no_form words stream Done none deserved = absurd (none deserved.0.0 deserved.0.1)
+no_form words stream (BadBook line kind) none deserved = absurd (none deserved.0.0 deserved.0.1)
 no_form words stream (TooLong object) none deserved = absurd (none deserved.0.0 deserved.0.1)
 no_form words stream (ReadFault object) none deserved = absurd (none deserved.0.0 deserved.0.1)
 no_form words stream WriteFault none deserved = absurd (none deserved.0.0 deserved.0.1)
@@ -162,6 +174,7 @@ fate_alone words (Some t) stream source r s whole fit fate deserved =
 pub refused_fate : (stream : List ℕ) (r : Status) → length stream ≤ STREAM_OCTETS → IsRefused stream r → Fate stream r ⊎ (r ≡ OutOfMemory)
 refused_fate stream Done within refused = absurd refused
 refused_fate stream Usage within refused = absurd refused
+refused_fate stream (BadBook line kind) within refused = absurd refused
 refused_fate stream (TooLong object) within refused = absurd refused
 refused_fate stream (ReadFault object) within refused = absurd refused
 refused_fate stream WriteFault within refused = absurd refused

@@ -12,9 +12,9 @@ use Rattle.urpf_cli.specs.declared.check.TheConstants.{STREAM_OCTETS}
 use Rattle.urpf_cli.specs.declared.session.SessionFault.{SessionFault}
 use Rattle.urpf_cli.specs.declared.session.SessionFault.TheVariants.{Header, Strange}
 use Rattle.urpf_cli.specs.declared.session.SessionFault.TheVariants as fault
-use Rattle.urpf_cli.specs.declared.status.Object.TheVariants.{Stream}
+use Rattle.urpf_cli.specs.declared.status.Object.TheVariants.{Book, Stream}
 use Rattle.urpf_cli.specs.declared.status.Status.{Status}
-use Rattle.urpf_cli.specs.declared.status.Status.TheVariants.{Done, Usage, TooLong, ReadFault, WriteFault, BadSession, Unsupported, OutOfMemory}
+use Rattle.urpf_cli.specs.declared.status.Status.TheVariants.{Done, Usage, BadBook, TooLong, ReadFault, WriteFault, BadSession, Unsupported, OutOfMemory}
 
 -- the words are `check`, the name of a session and the text of the source
 pub record AreWords (words : List (List ℕ)) (source : Addr) : Type 0 where
@@ -44,6 +44,8 @@ pub record Within (stream : List ℕ) (outcome : Type 0) : Type 0 where
 abbrev pub Fate : List ℕ → Status → Type 0
 Fate stream Done = Within stream ((said : List (Option RouteUpdate)) × (rest : List ℕ) × IsRead stream said rest)
 Fate stream Usage = ⊥
+Fate stream (BadBook line kind) = ⊥
+Fate stream (TooLong Book) = ⊥
 Fate stream (TooLong Stream) = STREAM_OCTETS < length stream
 Fate stream (ReadFault object) = ⊥
 Fate stream WriteFault = ⊥

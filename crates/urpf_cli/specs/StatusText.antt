@@ -1,18 +1,28 @@
 -- The text of a status on standard error, and the number that the program ends with. Our own choice.
 use Rattle.std.specs.Prelude.{ℕ, List, [], ◌++◌, codes, decimal}
+use Rattle.runbook.specs.declared.lines.BookKind.{BookKind}
+use Rattle.runbook.specs.declared.lines.BookKind.TheVariants.{Syntax, Session, Iface}
 use Rattle.urpf_cli.specs.declared.status.Object.{Object}
-use Rattle.urpf_cli.specs.declared.status.Object.TheVariants.{Stream}
+use Rattle.urpf_cli.specs.declared.status.Object.TheVariants.{Book, Stream}
 use Rattle.urpf_cli.specs.declared.status.Status.{Status}
-use Rattle.urpf_cli.specs.declared.status.Status.TheVariants.{Done, Usage, TooLong, ReadFault, WriteFault, BadSession, Unsupported, OutOfMemory}
+use Rattle.urpf_cli.specs.declared.status.Status.TheVariants.{Done, Usage, BadBook, TooLong, ReadFault, WriteFault, BadSession, Unsupported, OutOfMemory}
 
 -- what an object is called
 abbrev pub object_text : Object → List ℕ
+object_text Book = codes "book"
 object_text Stream = codes "stream"
+
+-- what a fault of a runbook is called
+abbrev pub kind_text : BookKind → List ℕ
+kind_text Syntax = codes "Syntax"
+kind_text Session = codes "Session"
+kind_text Iface = codes "Iface"
 
 -- what a status says; a run that is done says nothing
 abbrev pub status_text : Status → List ℕ
 status_text Done = []
 status_text Usage = codes "usage: check SESSION SOURCE | offline CONFIG BOOK PAIRS S... | live CONFIG BOOK PAIRS S... : P..."
+status_text (BadBook line kind) = codes "book line " ++ decimal line ++ codes " " ++ kind_text kind
 status_text (TooLong object) = object_text object ++ codes " too long"
 status_text (ReadFault object) = codes "read fault on " ++ object_text object
 status_text WriteFault = codes "write fault"
@@ -29,6 +39,7 @@ status_line status = codes "urpf: " ++ status_text status ++ codes "\n"
 abbrev pub exit_of : Status → ℕ
 exit_of Done = 0
 exit_of Usage = 2
+exit_of (BadBook line kind) = 4
 exit_of (TooLong object) = 7
 exit_of (ReadFault object) = 8
 exit_of WriteFault = 9

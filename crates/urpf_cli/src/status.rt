@@ -1,8 +1,12 @@
 //! How a command ended.
 
+use runbook::BookKind;
+
 /// A text or stream that a status names.
 #[derive(Clone, Copy, Debug, PartialEq, Eq)]
 pub enum Object {
+    /// The runbook.
+    Book,
     /// The stream of one session.
     Stream,
 }
@@ -14,6 +18,8 @@ pub enum Status {
     Done,
     /// The words fit no form of the command.
     Usage,
+    /// The line of this number, counted from 1, is the first of the runbook that is refused.
+    BadBook { line: u32, kind: BookKind },
     /// The text has more octets than its limit.
     TooLong(Object),
     /// A read of the object failed.

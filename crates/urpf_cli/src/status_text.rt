@@ -1,9 +1,10 @@
 //! What a status says on standard error, and the number that the program ends with.
 ghost use Rattle.std.specs.Prelude.{◌≡◌, ◌+◌, ◌≤◌, [], ◌++◌, length, codes, decimal};
-ghost use Rattle.urpf_cli.specs.StatusText.{exit_of, object_text, status_line, status_text};
+ghost use Rattle.urpf_cli.specs.StatusText.{exit_of, kind_text, object_text, status_line, status_text};
 
 use crate::status::{Object, Status};
 use ip_text::put_number;
+use runbook::BookKind;
 use urpf_base::Line;
 
 /// How all commands are used, also those that do not exist yet.
@@ -30,6 +31,7 @@ pub fn exit_code(status: &Status) -> u8
     match status {
         Status::Done => 0,
         Status::Usage => 2,
+        Status::BadBook { .. } => 4,
         Status::TooLong(_) => 7,
         Status::ReadFault(_) => 8,
         Status::WriteFault => 9,
@@ -47,6 +49,7 @@ fn put_text(status: &Status, to: &mut Line)
     match status {
         Status::Done => {}
         Status::Usage => to.push(USAGE),
+        Status::BadBook { line, kind } => put_bad_book(*line, *kind, to),
         Status::TooLong(object) => {
             put_object(*object, to);
             to.push(b" too long");
@@ -68,7 +71,31 @@ fn put_object(object: Object, to: &mut Line)
     ensures short { length to.new ≤ length to.old + 32 }
 {
     match object {
+        Object::Book => to.push(b"book"),
         Object::Stream => to.push(b"stream"),
+    }
+}
+
+fn put_bad_book(line: u32, kind: BookKind, to: &mut Line)
+    requires { length to.old + 512 ≤ 8192 }
+    ensures text { to.new ≡ to.old ++ status_text (Status.BadBook line kind) }
+    ensures short { length to.new ≤ length to.old + 128 }
+{
+    to.push(b"book line ");
+    put_number(u64::from(line), to);
+    to.push(b" ");
+    put_kind(kind, to);
+}
+
+fn put_kind(kind: BookKind, to: &mut Line)
+    requires { length to.old + 64 ≤ 8192 }
+    ensures text { to.new ≡ to.old ++ kind_text kind }
+    ensures short { length to.new ≤ length to.old + 32 }
+{
+    match kind {
+        BookKind::Syntax => to.push(b"Syntax"),
+        BookKind::Session => to.push(b"Session"),
+        BookKind::Iface => to.push(b"Iface"),
     }
 }
 

@@ -1,4 +1,5 @@
 pub mod CheckOne
+pub mod Offline
 pub mod Pulls
 pub mod RunText
 pub mod Running

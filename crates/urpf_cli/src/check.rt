@@ -112,7 +112,7 @@ fn take_all(rib: &mut AdjRib, items: &[Option<UpdateView<'_>>]) -> Result<(), Ou
 }
 
 /// The status of a stream that cannot be read.
-fn status_of(fault: SessionFault) -> Status
+pub fn status_of(fault: SessionFault) -> Status
     ensures { result ≡ status_of_fault fault }
 {
     match fault {

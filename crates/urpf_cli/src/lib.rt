@@ -3,6 +3,7 @@
 
 mod adapters;
 mod check;
+mod offline;
 mod run;
 mod session;
 mod status;
@@ -13,6 +14,7 @@ mod words;
 
 pub use adapters::{FileSource, OutSink};
 pub use check::{STREAM_OCTETS, check_one};
+pub use offline::{BOOK_OCTETS, offline_stream};
 pub use status::{Object, Status};
 pub use status_text::{exit_code, put_status};
 

@@ -1,7 +1,8 @@
 //! The words of a command line, after the program's name.
-ghost use Rattle.std.specs.Prelude.{◌≡◌, IfSome, Some, map, string_bytes};
+ghost use Rattle.std.specs.Prelude.{◌≡◌, ◌↔◌, IfSome, IsTrue, Some, map, string_bytes};
 ghost use Rattle.urpf_base.specs.declared.address.Addr.{Addr};
 ghost use Rattle.urpf_cli.specs.CheckOne.{AreWords};
+ghost use Rattle.urpf_cli.specs.Offline.{AreOfflineWords};
 
 use ip_text::read_addr;
 use urpf_base::Addr;
@@ -22,4 +23,17 @@ pub fn check_source(words: &[String]) -> Option<Addr>
         return None;
     };
     Some(addr)
+}
+
+/// Whether the words are those of `offline BOOK STREAM`.
+pub fn are_offline(words: &[String]) -> bool
+    ensures { IsTrue result ↔ AreOfflineWords (map string_bytes words.now) }
+{
+    let [command, _book, _stream] = words else {
+        return false;
+    };
+    if command.as_str() != "offline" {
+        return false;
+    }
+    true
 }

@@ -7,7 +7,7 @@ use std::process::ExitCode;
 use std::rt::{Env, Files};
 use std::{env, io};
 use urpf_base::{Line, write_all};
-use urpf_cli::{FileSource, OutSink, Status, check_one, exit_code, put_status};
+use urpf_cli::{FileSource, OutSink, Status, check_one, exit_code, offline_stream, put_status};
 
 fn main(rt: HostRuntime) -> ExitCode {
     let status = run(&rt);
@@ -15,19 +15,27 @@ fn main(rt: HostRuntime) -> ExitCode {
     ExitCode::from(exit_code(&status))
 }
 
-/// Runs the command.
+/// Runs the command that the first word names. Other words fit no form, as `check` says.
 fn run<R: AllocGlobal + Env + Files + Print>(rt: &R) -> Status {
     let words = match words(rt) {
         Ok(words) => words,
         Err(status) => return status,
     };
-    let session = match words.get(1) {
-        Some(session) => session.as_str(),
-        None => "",
-    };
-    let mut session = FileSource::new(rt, session);
+    let mut first = FileSource::new(rt, word(&words, 1));
+    let mut second = FileSource::new(rt, word(&words, 2));
     let mut out = OutSink::new(io::writer(rt));
-    check_one(rt.alloc(), &words, &mut session, &mut out)
+    if word(&words, 0) == "offline" {
+        return offline_stream(rt.alloc(), &words, &mut first, &mut second, &mut out);
+    }
+    check_one(rt.alloc(), &words, &mut first, &mut out)
+}
+
+/// The word at this place, or nothing where there are fewer words.
+fn word(words: &[String], place: usize) -> &str {
+    match words.get(place) {
+        Some(word) => word.as_str(),
+        None => "",
+    }
 }
 
 /// The words after the program's name. Words that are no UTF-8 fit no form of a command.

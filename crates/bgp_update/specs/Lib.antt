@@ -1,2 +1,4 @@
+pub mod Faults
 pub mod Layout
-pub mod Plain
+pub mod Update
+pub mod View

@@ -1,7 +1,9 @@
 //! The three fields of an UPDATE's body (RFC 4271, section 4.3): withdrawn routes and path
 //! attributes, each after its length of two octets, and the NLRI up to the end.
-ghost use Rattle.std.specs.Prelude.{◌≡◌, ◌<◌, ◌^◌, ◌++◌, ℕ, List, length, IfSome, IsSomeAnd};
-ghost use Rattle.bgp_update.specs.Layout.{counted, IsLaidOut};
+ghost use Rattle.std.specs.Prelude.{◌≡◌, ℕ, List, IfSome, IsSomeAnd};
+ghost use Rattle.bgp_update.specs.Layout.{IsCounted, IsLaidOut};
+
+use byteorder::{BigEndian, ByteOrder};
 
 /// The fields of a body, which they borrow.
 #[derive(Clone, Copy)]
@@ -31,19 +33,19 @@ pub fn read_fields(body: &[u8]) -> Option<Fields<'_>>
     })
 }
 
-/// A field after its length of two octets, and what follows it.
+/// A field after its length of two octets, and what follows it. None where that is too short.
 fn counted_field(text: &[u8]) -> Option<(&[u8], &[u8])>
-    ensures found { IfSome result (λ x. text.now ≡ counted x.0.now ++ x.1.now) }
-    ensures fits { IfSome result (λ x. length x.0.now < 2 ^ 16) }
-    ensures only { (field rest : List ℕ) → length field < 2 ^ 16 → text.now ≡ counted field ++ rest
+    ensures found { IfSome result (λ x. IsCounted text.now x.0.now x.1.now) }
+    ensures only { (field rest : List ℕ) → IsCounted text.now field rest
         → IsSomeAnd result (λ x. (x.0.now ≡ field) × (x.1.now ≡ rest)) }
 {
-    let [high, low, rest @ ..] = text else {
-        return None;
-    };
-    let count = u16::from_be_bytes([*high, *low]) as usize;
-    if rest.len() < count {
+    if text.len() < 2 {
         return None;
     }
-    Some(rest.split_at(count))
+    let (size, text) = text.split_at(2);
+    let count = BigEndian::read_u16(size) as usize;
+    if text.len() < count {
+        return None;
+    }
+    Some(text.split_at(count))
 }

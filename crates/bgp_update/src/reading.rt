@@ -1,30 +1,84 @@
-//! The body of an UPDATE, read whole (RFC 4271, section 4.3).
-ghost use Rattle.std.specs.Prelude.{◌≡◌, IfSome, Some};
+//! The body of an UPDATE, read whole (RFC 4271, section 4.3), or its first fault (section 6.3).
+ghost use Rattle.std.specs.Prelude.{◌≡◌, ◌≤◌, ℕ, length, IfOk, IfErr, Ok, Err};
 ghost use Rattle.urpf_base.specs.RouteUpdates.{RouteUpdate};
-ghost use Rattle.bgp_update.specs.Plain.{IsPlain};
+ghost use Rattle.bgp_update.specs.Faults.{IsFaultOf};
+ghost use Rattle.bgp_update.specs.Update.{IsUpdate};
 
 use crate::layout::read_fields;
-use crate::plain::suit;
+use crate::routes::{has_mandatory, origin_in};
+use crate::subcodes::{
+    INVALID_NETWORK_FIELD, MALFORMED_ATTRIBUTE_LIST, MISSING_WELL_KNOWN_ATTRIBUTE,
+};
 use crate::view::UpdateView;
+use as_path::Width;
+use bgp_attr::walk;
 use bgp_nlri::{Family, check};
 
-/// What the body withdraws and announces. None where it is no plain UPDATE: a length runs past the
-/// body, a prefix is not well formed, or the attributes are neither none nor the plain ones.
-pub fn read_update(body: &[u8]) -> Option<UpdateView<'_>>
-    ensures found { IfSome result (IsPlain body.now) }
-    ensures only { (update : RouteUpdate) → IsPlain body.now update → result ≡ Some update }
+/// The first fault of an UPDATE.
+#[derive(Clone, Copy, Debug, PartialEq, Eq)]
+pub struct UpdateFault {
+    /// The subcode, under the code 3 (RFC 4271, section 6.3).
+    pub sub: u8,
+}
+
+/// What the body withdraws and announces, or its first fault: the lengths of the fields count
+/// first, then the withdrawn prefixes, the attributes in their order, whether one is missing, and
+/// the prefixes of the NLRI. After a fault nothing of the body counts.
+///
+/// `width` is that of AS numbers in AS_PATH and AGGREGATOR. `v6` says whether the peer listed IPv6
+/// unicast; from another the IPv6 prefixes are passed over.
+pub fn read_update(body: &[u8], width: Width, v6: bool) -> Result<UpdateView<'_>, UpdateFault>
+    requires { 4 ≤ length body.now }
+
+    // What is read is an UPDATE without a fault, and each such UPDATE is read as that.
+    ensures found { IfOk result (IsUpdate width v6 body.now) }
+    ensures only { (update : RouteUpdate) → IsUpdate width v6 body.now update
+        → result ≡ Ok update }
+
+    // The fault is the first of the body, and the first fault is answered.
+    ensures fault { IfErr result (λ fault. IsFaultOf width v6 body.now fault.sub) }
+    ensures only_fault { (sub : ℕ) → IsFaultOf width v6 body.now sub
+        → result ≡ Err (record { sub = sub }) }
+{
+    judge(body, width, v6)
+}
+
+/// The same, one way.
+fn judge(body: &[u8], width: Width, v6: bool) -> Result<UpdateView<'_>, UpdateFault>
+    requires { 4 ≤ length body.now }
+    ensures found { IfOk result (IsUpdate width v6 body.now) }
+    ensures fault { IfErr result (λ fault. IsFaultOf width v6 body.now fault.sub) }
 {
     let Some(fields) = read_fields(body) else {
-        return None;
+        return Err(UpdateFault {
+            sub: MALFORMED_ATTRIBUTE_LIST,
+        });
     };
     if !check(fields.withdrawn, Family::V4) {
-        return None;
+        return Err(UpdateFault {
+            sub: INVALID_NETWORK_FIELD,
+        });
+    }
+    let attrs = match walk(fields.attributes, width, v6) {
+        Ok(attrs) => attrs,
+        Err(fault) => return Err(UpdateFault { sub: fault.sub }),
+    };
+    if !has_mandatory(&attrs, fields.nlri) {
+        return Err(UpdateFault {
+            sub: MISSING_WELL_KNOWN_ATTRIBUTE,
+        });
     }
     if !check(fields.nlri, Family::V4) {
-        return None;
+        return Err(UpdateFault {
+            sub: INVALID_NETWORK_FIELD,
+        });
     }
-    if !suit(fields.attributes, fields.nlri) {
-        return None;
-    }
-    Some(UpdateView::of(fields.withdrawn, fields.nlri, None))
+    let origin = origin_in(&attrs);
+    Ok(UpdateView::of(
+        fields.withdrawn,
+        attrs.unreach,
+        fields.nlri,
+        attrs.reach,
+        origin,
+    ))
 }

@@ -1,73 +1,82 @@
 //! What an UPDATE withdraws and announces, read out of the octets of its body.
-ghost use Rattle.std.specs.Prelude.{◌≡◌, List};
+ghost use Rattle.std.specs.Prelude.{◌≡◌};
 ghost use Rattle.std.specs.Iterator.{YieldsFirst, item_count};
-ghost use Rattle.urpf_base.specs.Address.{Block};
-ghost use Rattle.bgp_nlri.specs.Nlri.{SpellsPrefixes};
-ghost use Rattle.bgp_nlri.specs.declared.family.Family.TheVariants.{V4};
+ghost use Rattle.bgp_update.specs.View.{AreFields, both_in};
 
-use bgp_nlri::{Family, Prefixes};
+use crate::families::BothFamilies;
 use std::marker::Model;
 use urpf_base::{Origin, Prefix};
 
 /// An UPDATE whose body was read and has no fault. It borrows the body, and contracts see what it
-/// withdraws and announces.
+/// withdraws and announces, and the origin of what it announces.
 #[derive(Drop)]
 pub struct UpdateView<'a> {
     withdrawn: &'a [u8],
+    unreach: &'a [u8],
     nlri: &'a [u8],
+    reach: &'a [u8],
     origin: Origin,
 }
 
 impl<'a> Model for UpdateView<'a> {
     ghost use Rattle.urpf_base.specs.RouteUpdates.{RouteUpdate};
-    ghost use Rattle.bgp_nlri.specs.Front.{prefixes_in};
-    ghost use Rattle.bgp_nlri.specs.declared.family.Family.TheVariants.{V4};
-    ghost use Rattle.bgp_update.specs.Plain.{AreFields};
+    ghost use Rattle.bgp_update.specs.View.{AreFields, both_in};
 
     ghost Value = { RouteUpdate };
 
     ghost view = { λ u. record {
-      withdrawn = prefixes_in V4 u.withdrawn.now;
-      announced = prefixes_in V4 u.nlri.now;
+      withdrawn = both_in u.withdrawn.now u.unreach.now;
+      announced = both_in u.nlri.now u.reach.now;
       origin = u.origin;
     } };
 
-    ghost invariant = { λ u. AreFields u.withdrawn.now u.nlri.now };
+    ghost invariant = { λ u. AreFields u.withdrawn.now u.unreach.now
+        × AreFields u.nlri.now u.reach.now };
 }
 
 impl<'a> UpdateView<'a> {
-    /// The UPDATE of these fields, both of which are well formed IPv4 prefixes, and this origin.
-    pub(crate) fn of(withdrawn: &'a [u8], nlri: &'a [u8], origin: Origin) -> UpdateView<'a>
-        requires withdraws { (ps : List Block) × SpellsPrefixes V4 withdrawn.now ps }
-        requires announces { (ps : List Block) × SpellsPrefixes V4 nlri.now ps }
-        ensures withdrawn { SpellsPrefixes V4 withdrawn.now result.withdrawn }
-        ensures announced { SpellsPrefixes V4 nlri.now result.announced }
+    /// The UPDATE of these fields of prefixes, all of them well formed, and of this origin.
+    /// `withdrawn` and `nlri` hold IPv4 prefixes, `unreach` and `reach` IPv6 prefixes.
+    pub(crate) fn of(
+        withdrawn: &'a [u8],
+        unreach: &'a [u8],
+        nlri: &'a [u8],
+        reach: &'a [u8],
+        origin: Origin,
+    ) -> UpdateView<'a>
+        requires withdraws { AreFields withdrawn.now unreach.now }
+        requires announces { AreFields nlri.now reach.now }
+        ensures withdrawn { result.withdrawn ≡ both_in withdrawn.now unreach.now }
+        ensures announced { result.announced ≡ both_in nlri.now reach.now }
         ensures origin { result.origin ≡ origin }
     {
         UpdateView {
             withdrawn,
+            unreach,
             nlri,
+            reach,
             origin,
         }
     }
 
-    /// The prefixes that are withdrawn, in their order.
+    /// The prefixes that are withdrawn: those of IPv4, and then those of IPv6, in their order.
     pub fn withdrawn(&self) -> Withdrawn<'a>
         ensures { result ≡ self.now.withdrawn }
     {
-        let prefixes = Prefixes::over(self.withdrawn, Family::V4);
+        let prefixes = BothFamilies::over(self.withdrawn, self.unreach);
         Withdrawn { prefixes }
     }
 
-    /// The prefixes that are announced, in their order.
+    /// The prefixes that are announced: those of IPv4, and then those of IPv6, in their order. One
+    /// that is withdrawn too counts as announced.
     pub fn announced(&self) -> Announced<'a>
         ensures { result ≡ self.now.announced }
     {
-        let prefixes = Prefixes::over(self.nlri, Family::V4);
+        let prefixes = BothFamilies::over(self.nlri, self.reach);
         Announced { prefixes }
     }
 
-    /// The origin of all announced prefixes.
+    /// The origin of all announced prefixes. None where the path has none, or AS_PATH is missing.
     pub fn origin(&self) -> Origin
         ensures { result ≡ self.now.origin }
     {
@@ -78,7 +87,7 @@ impl<'a> UpdateView<'a> {
 /// The withdrawn prefixes that are left. Contracts see their list.
 #[derive(Drop)]
 pub struct Withdrawn<'a> {
-    prefixes: Prefixes<'a>,
+    prefixes: BothFamilies<'a>,
 }
 
 impl<'a> Model for Withdrawn<'a> {
@@ -105,7 +114,7 @@ impl<'a> Iterator for Withdrawn<'a> {
 /// The announced prefixes that are left. Contracts see their list.
 #[derive(Drop)]
 pub struct Announced<'a> {
-    prefixes: Prefixes<'a>,
+    prefixes: BothFamilies<'a>,
 }
 
 impl<'a> Model for Announced<'a> {

@@ -1,0 +1,20 @@
+//! A law on the definitions of UPDATEs and their faults, as the contract of a function without code.
+ghost use Rattle.std.specs.Prelude.{◌≡◌, ◌≤◌, ◌↔◌, ℕ, Bool, List, length};
+ghost use Rattle.as_path.specs.declared.widths.Width.{Width};
+ghost use Rattle.urpf_base.specs.RouteUpdates.{RouteUpdate};
+ghost use Rattle.bgp_update.specs.Faults.{IsFaultOf, HasOutcome};
+ghost use Rattle.bgp_update.specs.Update.{IsUpdate};
+
+/// Each body of at least 4 octets is one UPDATE without a fault, or has one first fault: it has no
+/// first fault exactly where it is an UPDATE for some prefixes and origin, and then for no others.
+pub fn one_outcome()
+    ensures some { (width : Width) (v6 : Bool) (body : List ℕ) → 4 ≤ length body
+        → HasOutcome width v6 body }
+    ensures exact { (width : Width) (v6 : Bool) (body : List ℕ) → 4 ≤ length body
+        → (((update : RouteUpdate) × IsUpdate width v6 body update)
+        ↔ ((sub : ℕ) → IsFaultOf width v6 body sub → ⊥)) }
+    ensures one_update { (width : Width) (v6 : Bool) (body : List ℕ) (u v : RouteUpdate)
+        → IsUpdate width v6 body u → IsUpdate width v6 body v → u ≡ v }
+    ensures one_fault { (width : Width) (v6 : Bool) (body : List ℕ) (sub other : ℕ)
+        → IsFaultOf width v6 body sub → IsFaultOf width v6 body other → sub ≡ other }
+{}

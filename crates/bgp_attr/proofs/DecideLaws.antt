@@ -97,7 +97,7 @@ series_within front reads zero (n ∷ text) within = absurd (omega (arith, withi
 series_within front reads (suc k) (n ∷ text) within =
     series_at front reads (n ∷ text) (front (n ∷ text)) refl (omega arith) (λ rest shorter. series_within front reads k rest (omega (arith, within, shorter)))
 
-series : {X : Type 0} {Spells : List ℕ → X → Type 0} (front : List ℕ → Option (X × List ℕ)) → ReadsFront Spells front → (text : List ℕ) → Told ((xs : List X) × SpellsAll Spells text xs)
+pub series : {X : Type 0} {Spells : List ℕ → X → Type 0} (front : List ℕ → Option (X × List ℕ)) → ReadsFront Spells front → (text : List ℕ) → Told ((xs : List X) × SpellsAll Spells text xs)
 series front reads text = series_within front reads (length text) text (omega arith)
 
 is_reach : (value : List ℕ) → Told (IsReach value)

@@ -1,0 +1,4 @@
+pub mod LayoutLaws
+pub mod OriginLaws
+pub mod OutcomeLaws
+pub mod UpdateLaws

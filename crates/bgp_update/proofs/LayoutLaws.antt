@@ -1,8 +1,8 @@
 -- A body has one layout, and none exactly where its lengths say too much.
-use Rattle.std.proofs.Common.{◌≡◌, ◌⊎◌, inl, inr, ℕ, ◌+◌, ◌-◌, ◌≤◌, ◌<◌, List, ◌++◌, length, take, drop, refl, ap, sym, subst, ◌∙◌, length-append, arith}
+use Rattle.std.proofs.Common.{◌≡◌, ◌⊎◌, inl, inr, ℕ, ◌+◌, ◌-◌, ◌≤◌, List, ◌++◌, length, take, drop, refl, ap, sym, ◌∙◌, length-append, arith}
 use Rattle.std.proofs.lemmas.Bool.{cases_lt}
 use Rattle.std.proofs.lemmas.List.{take-append-drop, length-take-le, length-drop, drop-drop}
-use Rattle.std.proofs.Math.Seq.{take-append_seam, drop-append_seam, drop-append-add}
+use Rattle.std.proofs.Math.Seq.{take-append_seam, drop-append_seam}
 use Rattle.byteorder.specs.Endian.{big_number}
 use Rattle.byteorder.specs.Numbers.{big_from-append, big_from-take}
 use Rattle.bgp_update.specs.Layout.{IsCounted, IsLaidOut}
@@ -103,9 +103,9 @@ pub laid_out_or_too_long : (body : List ℕ) → HasLayout body ⊎ AreTooLong b
 laid_out_or_too_long body = elim (cases_lt (length body) (withdrawn_length body + 4)) [
   | inl past ↦ inr (inl past)
   | inr enough ↦ elim (cases_lt (length body) (withdrawn_length body + attributes_length body + 4)) [
-      | inl past ↦ inr (inr past)
-      | inr fitting ↦ inl (layout_at body enough fitting)
-    ]
+    | inl past ↦ inr (inr past)
+    | inr fitting ↦ inl (layout_at body enough fitting)
+  ]
 ]
 
 -- a body without a layout has lengths that say too much

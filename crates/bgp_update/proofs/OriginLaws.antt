@@ -1,8 +1,7 @@
 -- Attributes tell one origin.
-use Rattle.std.proofs.Common.{◌≡◌, ◌⊎◌, inl, inr, ℕ, ◌<◌, List, [], ◌∷◌, length, Option, Some, None, refl, ap, sym, ◌∙◌, arith}
+use Rattle.std.proofs.Common.{◌≡◌, ◌⊎◌, inl, inr, ℕ, List, [], ◌∷◌, length, Option, Some, None, refl, ap, sym, ◌∙◌, arith}
 use Rattle.std.specs.Option.{ForSome}
 use Rattle.urpf_base.proofs.Series.{one_series}
-use Rattle.as_path.specs.declared.merge.Aggregators.{Aggregators}
 use Rattle.as_path.specs.declared.widths.Width.{Width}
 use Rattle.as_path.specs.declared.widths.Width.TheVariants.{Two, Four}
 use Rattle.as_path.specs.Front.{segment_front}

@@ -1,7 +1,6 @@
 -- A body is an UPDATE without a fault, or has one first fault, and never both.
 use Rattle.std.proofs.Common.{◌≡◌, ◌⊎◌, inl, inr, ℕ, ◌<◌, Bool, true, false, List, [], ◌∷◌, ◌++◌, length, is_some, refl, ap, sym, subst, ◌∙◌, arith, Result, Ok, Err, IfOk, IfErr, IsTrue, ◌↔◌}
 use Rattle.std.proofs.lemmas.Bool.{cases_lt}
-use Rattle.urpf_base.specs.Address.{Block}
 use Rattle.urpf_base.specs.RouteUpdates.{RouteUpdate}
 use Rattle.bgp_nlri.specs.Front.{prefix_front}
 use Rattle.bgp_nlri.specs.declared.family.Family.TheVariants.{V4}
@@ -10,20 +9,18 @@ use Rattle.as_path.specs.declared.widths.Width.{Width}
 use Rattle.bgp_attr.specs.Attribute.{Attribute}
 use Rattle.bgp_attr.specs.Faults.{AreAttributes, IsFirstFault}
 use Rattle.bgp_attr.specs.Slots.{Values, values_of}
-use Rattle.bgp_attr.specs.Told.{reach_in, unreach_in}
+use Rattle.bgp_attr.specs.Told.{reach_in}
 use Rattle.bgp_attr.proofs.DecideLaws.{series}
 use Rattle.bgp_attr.proofs.DecideLaws.{has_outcome as attributes_outcome}
 use Rattle.bgp_attr.proofs.FaultLaws.{no_fault, one_fault, one_list}
 use Rattle.bgp_attr.proofs.ValueLaws.{values_fit, reach_in-prefixes, unreach_in-prefixes}
 use Rattle.bgp_update.specs.declared.reading.UpdateFault.{UpdateFault}
 use Rattle.bgp_update.specs.declared.subcodes.TheConstants.{MALFORMED_ATTRIBUTE_LIST, MISSING_WELL_KNOWN_ATTRIBUTE, INVALID_NETWORK_FIELD}
-use Rattle.bgp_update.specs.Faults.{ArePrefixes, Check, withdrawn_routes, path_attributes, mandatory_attributes, reachable_routes, Passes, Finds, order, FirstFinds, HasFaultyField, IsFaultOf, HasOutcome}
-use Rattle.bgp_update.specs.Layout.{IsLaidOut}
+use Rattle.bgp_update.specs.Faults.{ArePrefixes, Check, withdrawn_routes, path_attributes, mandatory_attributes, reachable_routes, Passes, Finds, order, FirstFinds, IsFaultOf, HasOutcome}
 use Rattle.bgp_update.specs.Update.{IsAnnouncing, HasMandatory, IsUpdate}
-use Rattle.bgp_update.specs.View.{both_in}
 use Rattle.bgp_update.proofs.LayoutLaws.{AreSame, one_layout, fits, HasLayout, laid_out_or_too_long}
 use Rattle.bgp_update.proofs.OriginLaws.{some_origin}
-use Rattle.bgp_update.proofs.UpdateLaws.{fields_of, both_spelled, one_update}
+use Rattle.bgp_update.proofs.UpdateLaws.{one_update}
 
 -- a check that passes finds no fault
 finds_nothing : (width : Width) (v6 : Bool) (w f n : List ℕ) (check : Check) (sub : ℕ) → Passes width v6 w f n check → Finds width v6 w f n check sub → ⊥
@@ -130,18 +127,21 @@ good width v6 body l attributes ws are mandatory ns =
     let reach = reach_in-prefixes v6 held.reach fit.reach in
     let told = some_origin width held fit.path in
     let update : RouteUpdate = record { withdrawn = ws.0 ++ unreach.0; announced = ns.0 ++ reach.0; origin = told.0 } in
-    inl (update, record {
-      withdrawn = l.withdrawn;
-      field = l.field;
-      nlri = l.nlri;
-      laid_out = l.laid_out;
-      attributes = attributes;
-      good = are;
-      mandatory = mandatory;
-      withdraws = record { front = ws.0; back = unreach.0; spells_front = ws.1; spells_back = unreach.1; joined = refl };
-      announces = record { front = ns.0; back = reach.0; spells_front = ns.1; spells_back = reach.1; joined = refl };
-      origin = told.1;
-    })
+    inl (
+      update,
+      record {
+        withdrawn = l.withdrawn;
+        field = l.field;
+        nlri = l.nlri;
+        laid_out = l.laid_out;
+        attributes = attributes;
+        good = are;
+        mandatory = mandatory;
+        withdraws = record { front = ws.0; back = unreach.0; spells_front = ws.1; spells_back = unreach.1; joined = refl };
+        announces = record { front = ns.0; back = reach.0; spells_front = ns.1; spells_back = reach.1; joined = refl };
+        origin = told.1;
+      },
+    )
 
 nlri_step : (width : Width) (v6 : Bool) (body : List ℕ) (l : HasLayout body) (attributes : List Attribute) → ArePrefixes l.withdrawn → AreAttributes width v6 l.field attributes → HasMandatory v6 l.nlri (values_of attributes) → Told (ArePrefixes l.nlri)
     → HasOutcome width v6 body

@@ -1,5 +1,5 @@
 -- A body is one UPDATE, and what is read of it is this UPDATE.
-use Rattle.std.proofs.Common.{◌≡◌, ℕ, Bool, List, ◌++◌, Option, refl, ap, sym, subst, ◌∙◌}
+use Rattle.std.proofs.Common.{◌≡◌, ℕ, Bool, List, ◌++◌, Option, ap, sym, subst, ◌∙◌}
 use Rattle.urpf_base.specs.Address.{Block}
 use Rattle.urpf_base.specs.RouteUpdates.{RouteUpdate}
 use Rattle.bgp_nlri.specs.Front.{prefixes_in}
@@ -17,7 +17,7 @@ use Rattle.bgp_attr.proofs.FaultLaws.{one_list}
 use Rattle.bgp_update.specs.Layout.{IsLaidOut}
 use Rattle.bgp_update.specs.Update.{SpellsBoth, HasMandatory, TellsOrigin, IsUpdate, route_origin, aggregators_in}
 use Rattle.bgp_update.specs.View.{both_in, AreFields}
-use Rattle.bgp_update.proofs.LayoutLaws.{AreSame, one_layout}
+use Rattle.bgp_update.proofs.LayoutLaws.{one_layout}
 use Rattle.bgp_update.proofs.OriginLaws.{one_origin}
 
 -- two fields that spell prefixes are well formed

@@ -1,16 +1,16 @@
-//! A law on the definitions of UPDATEs and their faults, as the contract of a function without code.
-ghost use Rattle.std.specs.Prelude.{◌≡◌, ◌≤◌, ◌↔◌, ℕ, Bool, List, length};
+//! A law on the definitions of UPDATEs and of their faults, as the contract of a function without
+//! code.
+ghost use Rattle.std.specs.Prelude.{◌≡◌, ◌↔◌, ℕ, Bool, List};
 ghost use Rattle.as_path.specs.declared.widths.Width.{Width};
 ghost use Rattle.urpf_base.specs.RouteUpdates.{RouteUpdate};
 ghost use Rattle.bgp_update.specs.Faults.{IsFaultOf, HasOutcome};
 ghost use Rattle.bgp_update.specs.Update.{IsUpdate};
 
-/// Each body of at least 4 octets is one UPDATE without a fault, or has one first fault: it has no
-/// first fault exactly where it is an UPDATE for some prefixes and origin, and then for no others.
+/// Each body is one UPDATE without a fault, or has one first fault: it has no first fault exactly
+/// where it is an UPDATE for some prefixes and origin, and then for no others.
 pub fn one_outcome()
-    ensures some { (width : Width) (v6 : Bool) (body : List ℕ) → 4 ≤ length body
-        → HasOutcome width v6 body }
-    ensures exact { (width : Width) (v6 : Bool) (body : List ℕ) → 4 ≤ length body
+    ensures some { (width : Width) (v6 : Bool) (body : List ℕ) → HasOutcome width v6 body }
+    ensures exact { (width : Width) (v6 : Bool) (body : List ℕ)
         → (((update : RouteUpdate) × IsUpdate width v6 body update)
         ↔ ((sub : ℕ) → IsFaultOf width v6 body sub → ⊥)) }
     ensures one_update { (width : Width) (v6 : Bool) (body : List ℕ) (u v : RouteUpdate)

@@ -15,8 +15,10 @@ pub struct Fields<'a> {
 
 /// The three fields. None where a length says more octets than follow it.
 pub fn read_fields(body: &[u8]) -> Option<Fields<'_>>
-    ensures found { IfSome result (λ f. IsLaidOut body.now f.withdrawn.now f.attributes.now f.nlri.now) }
-    ensures only { (withdrawn attributes nlri : List ℕ) → IsLaidOut body.now withdrawn attributes nlri
+    ensures found { IfSome result (λ f. IsLaidOut body.now f.withdrawn.now f.attributes.now
+        f.nlri.now) }
+    ensures only { (withdrawn attributes nlri : List ℕ)
+        → IsLaidOut body.now withdrawn attributes nlri
         → IsSomeAnd result (λ f. (f.withdrawn.now ≡ withdrawn) × (f.attributes.now ≡ attributes)
         × (f.nlri.now ≡ nlri)) }
 {

@@ -1,5 +1,6 @@
-//! The body of an UPDATE (RFC 4271, section 4.3): octets come in, and the prefixes that it withdraws
-//! and announces with their origin, or its first fault, go out, without memory of their own.
+//! The body of an UPDATE (RFC 4271, section 4.3): octets come in, and the prefixes that it
+//! withdraws and announces with their origin, or its first fault, go out, without memory of their
+//! own.
 //!
 //! ```text
 //! body = length (2 octets), withdrawn routes (as many as the length),
@@ -18,3 +19,6 @@ mod view;
 pub use laws::one_outcome;
 pub use reading::{UpdateFault, read_update};
 pub use view::{Announced, UpdateView, Withdrawn};
+
+#[cfg(test)]
+mod tests;

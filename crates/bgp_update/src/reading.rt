@@ -5,7 +5,7 @@ ghost use Rattle.bgp_update.specs.Faults.{IsFaultOf};
 ghost use Rattle.bgp_update.specs.Update.{IsUpdate};
 
 use crate::layout::read_fields;
-use crate::routes::{has_mandatory, origin_in};
+use crate::routes::has_mandatory;
 use crate::subcodes::{
     INVALID_NETWORK_FIELD, MALFORMED_ATTRIBUTE_LIST, MISSING_WELL_KNOWN_ATTRIBUTE,
 };
@@ -43,9 +43,8 @@ pub fn read_update(body: &[u8], width: Width, v6: bool) -> Result<UpdateView<'_>
     judge(body, width, v6)
 }
 
-/// The same, one way.
+/// The checks in their order, up to the first that finds a fault.
 fn judge(body: &[u8], width: Width, v6: bool) -> Result<UpdateView<'_>, UpdateFault>
-    requires { 4 ≤ length body.now }
     ensures found { IfOk result (IsUpdate width v6 body.now) }
     ensures fault { IfErr result (λ fault. IsFaultOf width v6 body.now fault.sub) }
 {
@@ -73,12 +72,5 @@ fn judge(body: &[u8], width: Width, v6: bool) -> Result<UpdateView<'_>, UpdateFa
             sub: INVALID_NETWORK_FIELD,
         });
     }
-    let origin = origin_in(&attrs);
-    Ok(UpdateView::of(
-        fields.withdrawn,
-        attrs.unreach,
-        fields.nlri,
-        attrs.reach,
-        origin,
-    ))
+    Ok(UpdateView::of(fields, &attrs))
 }

@@ -1,9 +1,13 @@
 //! What an UPDATE withdraws and announces, read out of the octets of its body.
 ghost use Rattle.std.specs.Prelude.{◌≡◌};
 ghost use Rattle.std.specs.Iterator.{YieldsFirst, item_count};
+ghost use Rattle.bgp_update.specs.Update.{route_origin};
 ghost use Rattle.bgp_update.specs.View.{AreFields, both_in};
 
 use crate::families::BothFamilies;
+use crate::layout::Fields;
+use crate::routes::origin_in;
+use bgp_attr::Attrs;
 use std::marker::Model;
 use urpf_base::{Origin, Prefix};
 
@@ -35,27 +39,23 @@ impl<'a> Model for UpdateView<'a> {
 }
 
 impl<'a> UpdateView<'a> {
-    /// The UPDATE of these fields of prefixes, all of them well formed, and of this origin.
-    /// `withdrawn` and `nlri` hold IPv4 prefixes, `unreach` and `reach` IPv6 prefixes.
-    pub(crate) fn of(
-        withdrawn: &'a [u8],
-        unreach: &'a [u8],
-        nlri: &'a [u8],
-        reach: &'a [u8],
-        origin: Origin,
-    ) -> UpdateView<'a>
-        requires withdraws { AreFields withdrawn.now unreach.now }
-        requires announces { AreFields nlri.now reach.now }
-        ensures withdrawn { result.withdrawn ≡ both_in withdrawn.now unreach.now }
-        ensures announced { result.announced ≡ both_in nlri.now reach.now }
-        ensures origin { result.origin ≡ origin }
+    /// The UPDATE of these fields and attributes, whose fields of prefixes are all well formed.
+    pub(crate) fn of(fields: Fields<'a>, attrs: &Attrs<'a>) -> UpdateView<'a>
+        requires withdraws { AreFields fields.withdrawn.now attrs.now.unreach.now }
+        requires announces { AreFields fields.nlri.now attrs.now.reach.now }
+        ensures withdrawn { result.withdrawn
+            ≡ both_in fields.entry.withdrawn.now attrs.now.unreach.now }
+        ensures announced { result.announced
+            ≡ both_in fields.entry.nlri.now attrs.now.reach.now }
+        ensures origin { result.origin
+            ≡ route_origin attrs.now.path attrs.now.as4 attrs.now.aggregators }
     {
         UpdateView {
-            withdrawn,
-            unreach,
-            nlri,
-            reach,
-            origin,
+            withdrawn: fields.withdrawn,
+            unreach: attrs.unreach,
+            nlri: fields.nlri,
+            reach: attrs.reach,
+            origin: origin_in(attrs),
         }
     }
 

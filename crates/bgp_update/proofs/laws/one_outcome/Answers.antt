@@ -3,10 +3,10 @@ use Rattle.bgp_update.proofs.UpdateLaws.{one_update}
 use Rattle.bgp_update.proofs.laws.one_outcome.Goals as goal
 
 pub returns-clause-some : goal.returns-clause-some
-returns-clause-some c width v6 body long = has_outcome width v6 body
+returns-clause-some c width v6 body = has_outcome width v6 body
 
 pub returns-clause-exact : goal.returns-clause-exact
-returns-clause-exact c width v6 body long =
+returns-clause-exact c width v6 body =
     (λ is sub fault. never_both width v6 body is.0 sub is.1 fault, λ none. good_without_fault width v6 body none)
 
 pub returns-clause-one_update : goal.returns-clause-one_update

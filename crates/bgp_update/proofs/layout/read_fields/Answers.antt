@@ -1,4 +1,4 @@
-use Rattle.std.proofs.Common.{◌≡◌, List, ℕ, sym, subst}
+use Rattle.std.proofs.Common.{List, ℕ, sym, subst}
 use Rattle.bgp_update.specs.Layout.{IsCounted}
 use Rattle.bgp_update.proofs.layout.read_fields.Goals as goal
 

@@ -1,4 +1,4 @@
-use Rattle.std.proofs.Common.{inl, inr, refl, ◌∙◌}
+use Rattle.std.proofs.Common.{inl, inr, refl}
 use Rattle.bgp_attr.specs.Slots.{values_of}
 use Rattle.bgp_update.specs.Faults.{ArePrefixes}
 use Rattle.bgp_update.specs.Update.{HasMandatory}
@@ -72,5 +72,5 @@ returns-clause-found c =
       announces = fields_of fields.nlri.now attrs.reach.now (c.check-2.ensures.0 c.if-not-check-2.false) c.in-Ok.ensures.reach;
       same_withdrawn = c.of.ensures.withdrawn;
       same_announced = c.of.ensures.announced;
-      same_origin = c.of.ensures.origin ∙ c.origin_in-origin.ensures;
+      same_origin = c.of.ensures.origin;
     })

@@ -1,10 +1,16 @@
 -- No stream deserves two statuses.
-use Rattle.std.proofs.Common.{◌≡◌, ◌⊎◌, ℕ, suc, ◌+◌, ◌<◌, ◌≤◌, List, [], ◌∷◌, ◌++◌, length, take, drop, Option, Some, None, IfSome, IsSomeAnd, inl, inr, refl, ap, sym, subst, ◌∙◌, arith}
+use Rattle.std.proofs.Common.{true, ◌≡◌, ◌⊎◌, ℕ, suc, ◌+◌, ◌<◌, ◌≤◌, List, [], ◌∷◌, ◌++◌, length, take, drop, Option, Some, None, IfSome, IsSomeAnd, inl, inr, refl, ap, sym, subst, ◌∙◌, arith}
 use Rattle.urpf_base.specs.declared.address.Addr.{Addr}
 use Rattle.urpf_base.specs.RouteUpdates.{RouteUpdate}
 use Rattle.bgp_wire.specs.Frames.{Frames, Framing, End, Clean, Fault}
 use Rattle.bgp_wire.proofs.Framings.{one_framing}
-use Rattle.urpf_cli.specs.Session.{Says, SayAll, IsRead, IsFaultAt, IsStrangeAt}
+use Rattle.urpf_cli.specs.Session.{Says, SaysBy, SayAll, FailsBy, IsForeign, IsRead, IsFaultAt, StopsAt, IsBadUpdateAt, IsStrangeAt, IsBadAt}
+use Rattle.bgp_wire.specs.Header.{type_field}
+use Rattle.bgp_wire.specs.States.{kind_of}
+use Rattle.bgp_wire.specs.declared.kinds.MsgKind.{MsgKind}
+use Rattle.bgp_wire.specs.declared.kinds.MsgKind.TheVariants.{Open, Update, Notification, Keepalive}
+use Rattle.as_path.specs.declared.widths.Width.TheVariants.{Four}
+use Rattle.bgp_update.proofs.OutcomeLaws.{never_both, fault_once}
 use Rattle.std.specs.Io.KnownBytes.{Appends}
 use Rattle.std.proofs.lemmas.List.{take-append-drop}
 use Rattle.urpf_cli.specs.CheckOne.{AreWords, IsCheckLine, Within, IsRefused, Fate, FitNoForm, Deserves, WritesFront, WritesLine}
@@ -24,16 +30,30 @@ say-between [] m after (s ∷ said) say = (s, say.0)
 say-between (b ∷ before) m after [] say = absurd say
 say-between (b ∷ before) m after (s ∷ said) say = say-between before m after said say.1
 
--- a message that says nothing is no message of a stream of which all messages say something
-all_say : (stream : List ℕ) (place : ℕ) (messages : List (List ℕ)) (said : List (Option RouteUpdate)) (rest : List ℕ) (end : End) → Frames stream messages rest end → SayAll messages said → IsStrangeAt stream place → ⊥
-all_say stream place messages said rest end framed say odd =
-    let same = one_framing stream (framing framed) (framing odd.framed) in
-    let found = say-between odd.before odd.message odd.after said (subst (λ (ms : List (List ℕ)). SayAll ms said) same.0 say) in
-    odd.strange found.0 found.1
+-- what stops a reading says nothing
+abbrev IsSilent : (MsgKind → List ℕ → Type 0) → Type 0
+IsSilent Reason = (kind : MsgKind) (body : List ℕ) → Reason kind body → (s : Option RouteUpdate) → SaysBy kind body s → ⊥
 
--- the first message that says nothing stands at one place
-same_front : (before other : List (List ℕ)) (m n : List ℕ) (after more : List (List ℕ)) (said told : List (Option RouteUpdate)) → before ++ m ∷ after ≡ other ++ n ∷ more → SayAll before said → SayAll other told → ((s : Option RouteUpdate) → Says m s → ⊥) → ((s : Option RouteUpdate) → Says n s → ⊥) → length before ≡ length other
-same_front [] [] m n after more said told same say tell odd strange = refl
+foreign_silent : IsSilent (λ kind body. IsForeign kind)
+foreign_silent kind body (inl is) None says = cc
+foreign_silent kind body (inl is) (Some u) says = let update = says.0 in cc
+foreign_silent kind body (inr is) None says = cc
+foreign_silent kind body (inr is) (Some u) says = let update = says.0 in cc
+
+fails_silent : (sub : ℕ) → IsSilent (λ kind body. FailsBy kind body sub)
+fails_silent sub kind body fails None says = let update = fails.0 in cc
+fails_silent sub kind body fails (Some u) says = never_both Four true body u sub says.1 fails.1
+
+-- a message that says nothing is no message of a stream of which all messages say something
+all_say : (stream : List ℕ) (place : ℕ) (Reason : MsgKind → List ℕ → Type 0) (messages : List (List ℕ)) (said : List (Option RouteUpdate)) (rest : List ℕ) (end : End) → IsSilent Reason → Frames stream messages rest end → SayAll messages said → StopsAt stream place Reason → ⊥
+all_say stream place Reason messages said rest end silent framed say stops =
+    let same = one_framing stream (framing framed) (framing stops.framed) in
+    let found = say-between stops.before stops.message stops.after said (subst (λ (ms : List (List ℕ)). SayAll ms said) same.0 say) in
+    silent (kind_of (type_field stops.message)) (drop 19 stops.message) stops.reason found.0 found.1
+
+-- the first message that says nothing is one, and stands at one place
+same_front : (before other : List (List ℕ)) (m n : List ℕ) (after more : List (List ℕ)) (said told : List (Option RouteUpdate)) → before ++ m ∷ after ≡ other ++ n ∷ more → SayAll before said → SayAll other told → ((s : Option RouteUpdate) → Says m s → ⊥) → ((s : Option RouteUpdate) → Says n s → ⊥) → (length before ≡ length other) × (m ≡ n)
+same_front [] [] m n after more said told same say tell odd strange = (refl, cc)
 same_front [] (b ∷ other) m n after more said [] same say tell odd strange = absurd tell
 same_front [] (b ∷ other) m n after more said (t ∷ told) same say tell odd strange =
     let first : m ≡ b = cc in absurd (odd t (subst (λ (x : List ℕ). Says x t) (sym first) tell.0))
@@ -44,12 +64,18 @@ same_front (b ∷ before) (x ∷ other) m n after more [] told same say tell odd
 same_front (b ∷ before) (x ∷ other) m n after more (s ∷ said) [] same say tell odd strange = absurd tell
 same_front (b ∷ before) (x ∷ other) m n after more (s ∷ said) (t ∷ told) same say tell odd strange =
     let tails : before ++ m ∷ after ≡ other ++ n ∷ more = cc in
-    ap (λ k. suc k) (same_front before other m n after more said told tails say.1 tell.1 odd strange)
+    let front = same_front before other m n after more said told tails say.1 tell.1 odd strange in
+    (ap (λ k. suc k) front.0, front.1)
+
+same_stop : (stream : List ℕ) (place other : ℕ) (P Q : MsgKind → List ℕ → Type 0) → IsSilent P → IsSilent Q → (a : StopsAt stream place P) (b : StopsAt stream other Q) → (place ≡ other) × (a.message ≡ b.message)
+same_stop stream place other P Q silent mute a b =
+    let same = one_framing stream (framing a.framed) (framing b.framed) in
+    let front = same_front a.before b.before a.message b.message a.after b.after a.said b.said same.0 a.say b.say (silent (kind_of (type_field a.message)) (drop 19 a.message) a.reason) (mute (kind_of (type_field b.message)) (drop 19 b.message) b.reason) in
+    (a.counted ∙ ap (λ k. k + 1) front.0 ∙ sym b.counted, front.1)
 
 same_strange : (stream : List ℕ) (place other : ℕ) → IsStrangeAt stream place → IsStrangeAt stream other → place ≡ other
 same_strange stream place other a b =
-    let same = one_framing stream (framing a.framed) (framing b.framed) in
-    a.counted ∙ ap (λ k. k + 1) (same_front a.before b.before a.message b.message a.after b.after a.said b.said same.0 a.say b.say a.strange b.strange) ∙ sym b.counted
+    (same_stop stream place other (λ kind body. IsForeign kind) (λ kind body. IsForeign kind) foreign_silent foreign_silent a b).0
 
 same_fault : (stream : List ℕ) (sub other place at : ℕ) → IsFaultAt stream sub place → IsFaultAt stream other at → (sub ≡ other) × (place ≡ at)
 same_fault stream sub other place at a b =
@@ -59,11 +85,55 @@ same_fault stream sub other place at a b =
     same_sub : Fault sub ≡ Fault other → sub ≡ other
     same_sub e = cc
 
+same_update : (stream : List ℕ) (sub other place at : ℕ) → IsBadUpdateAt stream sub place → IsBadUpdateAt stream other at → (sub ≡ other) × (place ≡ at)
+same_update stream sub other place at a b =
+    let same = same_stop stream place at (λ kind body. FailsBy kind body sub) (λ kind body. FailsBy kind body other) (fails_silent sub) (fails_silent other) a b in
+    let fails = subst (λ (m : List ℕ). FailsBy (kind_of (type_field m)) (drop 19 m) sub) same.1 a.reason in
+    (fault_once Four true (drop 19 b.message) sub other fails.1 b.reason.1, same.0)
+
+-- a header fault comes after messages that all say something
+fault_or_stop : (stream : List ℕ) (sub place at : ℕ) (Reason : MsgKind → List ℕ → Type 0) → IsSilent Reason → IsFaultAt stream sub place → StopsAt stream at Reason → ⊥
+fault_or_stop stream sub place at Reason silent fault stops =
+    all_say stream at Reason fault.messages fault.said fault.rest (Fault sub) silent fault.framed fault.say stops
+
+same_bad : (stream : List ℕ) (code sub place other found at : ℕ) → IsBadAt stream code sub place → IsBadAt stream other found at → BadSession code sub place ≡ BadSession other found at
+same_bad stream code sub place other found at (inl a) (inl b) =
+    let same = same_fault stream sub found place at a.1 b.1 in
+    let codes : code ≡ other = a.0 ∙ sym b.0 in
+    rw (codes, same.0, same.1)
+same_bad stream code sub place other found at (inl a) (inr b) = absurd (fault_or_stop stream sub place at (λ kind body. FailsBy kind body found) (fails_silent found) a.1 b.1)
+same_bad stream code sub place other found at (inr a) (inl b) = absurd (fault_or_stop stream found at place (λ kind body. FailsBy kind body sub) (fails_silent sub) b.1 a.1)
+same_bad stream code sub place other found at (inr a) (inr b) =
+    let same = same_update stream sub found place at a.1 b.1 in
+    let codes : code ≡ other = a.0 ∙ sym b.0 in
+    rw (codes, same.0, same.1)
+
+bad_or_strange : (stream : List ℕ) (code sub place at : ℕ) → IsBadAt stream code sub place → IsStrangeAt stream at → ⊥
+bad_or_strange stream code sub place at (inl a) b = fault_or_stop stream sub place at (λ kind body. IsForeign kind) foreign_silent a.1 b
+bad_or_strange stream code sub place at (inr a) b =
+    let stops = a.1 in
+    let same = same_stop stream place at (λ kind body. FailsBy kind body sub) (λ kind body. IsForeign kind) (fails_silent sub) foreign_silent stops b in
+    let fails = subst (λ (m : List ℕ). FailsBy (kind_of (type_field m)) (drop 19 m) sub) same.1 stops.reason in
+    never (kind_of (type_field b.message)) fails.0 b.reason
+  where
+    never : (kind : MsgKind) → kind ≡ Update → IsForeign kind → ⊥
+    never kind update (inl is) = cc
+    never kind update (inr is) = cc
+
 clean_or_faulty : (stream : List ℕ) (said : List (Option RouteUpdate)) (rest : List ℕ) (sub place : ℕ) → IsRead stream said rest → IsFaultAt stream sub place → ⊥
 clean_or_faulty stream said rest sub place read fault =
     let same = one_framing stream (framing read.framed) (framing fault.framed) in
     let end : Clean ≡ Fault sub = same.2 in
     cc
+
+clean_or_bad : (stream : List ℕ) (said : List (Option RouteUpdate)) (rest : List ℕ) (code sub place : ℕ) → IsRead stream said rest → IsBadAt stream code sub place → ⊥
+clean_or_bad stream said rest code sub place read (inl a) = clean_or_faulty stream said rest sub place read a.1
+clean_or_bad stream said rest code sub place read (inr a) =
+    all_say stream place (λ kind body. FailsBy kind body sub) read.messages said rest Clean (fails_silent sub) read.framed read.say a.1
+
+clean_or_strange : (stream : List ℕ) (said : List (Option RouteUpdate)) (rest : List ℕ) (place : ℕ) → IsRead stream said rest → IsStrangeAt stream place → ⊥
+clean_or_strange stream said rest place read strange =
+    all_say stream place (λ kind body. IsForeign kind) read.messages said rest Clean foreign_silent read.framed read.say strange
 
 too_long_or_within : (stream : List ℕ) → STREAM_OCTETS < length stream → {P : Type 0} → Within stream P → ⊥
 too_long_or_within stream long within = omega (arith, within.short)
@@ -76,9 +146,9 @@ fate_done stream (TooLong Book) a b = absurd b
 fate_done stream (TooLong Stream) a b = absurd (too_long_or_within stream b a)
 fate_done stream (ReadFault object) a b = absurd b
 fate_done stream WriteFault a b = absurd b
-fate_done stream (BadSession code sub place) a b = absurd (clean_or_faulty stream a.comes.0 a.comes.1 sub place a.comes.2 b.comes.1)
+fate_done stream (BadSession code sub place) a b = absurd (clean_or_bad stream a.comes.0 a.comes.1 code sub place a.comes.2 b.comes)
 fate_done stream (Unsupported place) a b =
-    let read = a.comes.2 in absurd (all_say stream place read.messages a.comes.0 a.comes.1 Clean read.framed read.say b.comes)
+    absurd (clean_or_strange stream a.comes.0 a.comes.1 place a.comes.2 b.comes)
 fate_done stream OutOfMemory a b = absurd b
 
 fate_too_long : (stream : List ℕ) (s : Status) → Fate stream (TooLong Stream) → Fate stream s → TooLong Stream ≡ s
@@ -94,24 +164,21 @@ fate_too_long stream (Unsupported place) a b = absurd (too_long_or_within stream
 fate_too_long stream OutOfMemory a b = absurd b
 
 fate_bad : (stream : List ℕ) (code sub place : ℕ) (s : Status) → Fate stream (BadSession code sub place) → Fate stream s → BadSession code sub place ≡ s
-fate_bad stream code sub place Done a b = absurd (clean_or_faulty stream b.comes.0 b.comes.1 sub place b.comes.2 a.comes.1)
+fate_bad stream code sub place Done a b = absurd (clean_or_bad stream b.comes.0 b.comes.1 code sub place b.comes.2 a.comes)
 fate_bad stream code sub place Usage a b = absurd b
 fate_bad stream code sub place (BadBook line kind) a b = absurd b
 fate_bad stream code sub place (TooLong Book) a b = absurd b
 fate_bad stream code sub place (TooLong Stream) a b = absurd (too_long_or_within stream b a)
 fate_bad stream code sub place (ReadFault object) a b = absurd b
 fate_bad stream code sub place WriteFault a b = absurd b
-fate_bad stream code sub place (BadSession other found at) a b =
-    let same = same_fault stream sub found place at a.comes.1 b.comes.1 in
-    let codes : code ≡ other = a.comes.0 ∙ sym b.comes.0 in
-    rw (codes, same.0, same.1)
+fate_bad stream code sub place (BadSession other found at) a b = same_bad stream code sub place other found at a.comes b.comes
 fate_bad stream code sub place (Unsupported at) a b =
-    let fault = a.comes.1 in absurd (all_say stream at fault.messages fault.said fault.rest (Fault sub) fault.framed fault.say b.comes)
+    absurd (bad_or_strange stream code sub place at a.comes b.comes)
 fate_bad stream code sub place OutOfMemory a b = absurd b
 
 fate_unsupported : (stream : List ℕ) (place : ℕ) (s : Status) → Fate stream (Unsupported place) → Fate stream s → Unsupported place ≡ s
 fate_unsupported stream place Done a b =
-    let read = b.comes.2 in absurd (all_say stream place read.messages b.comes.0 b.comes.1 Clean read.framed read.say a.comes)
+    absurd (clean_or_strange stream b.comes.0 b.comes.1 place b.comes.2 a.comes)
 fate_unsupported stream place Usage a b = absurd b
 fate_unsupported stream place (BadBook line kind) a b = absurd b
 fate_unsupported stream place (TooLong Book) a b = absurd b
@@ -119,7 +186,7 @@ fate_unsupported stream place (TooLong Stream) a b = absurd (too_long_or_within 
 fate_unsupported stream place (ReadFault object) a b = absurd b
 fate_unsupported stream place WriteFault a b = absurd b
 fate_unsupported stream place (BadSession code sub at) a b =
-    let fault = b.comes.1 in absurd (all_say stream place fault.messages fault.said fault.rest (Fault sub) fault.framed fault.say a.comes)
+    absurd (bad_or_strange stream code sub at place b.comes a.comes)
 fate_unsupported stream place (Unsupported at) a b = ap (λ n. Unsupported n) (same_strange stream place at a.comes b.comes)
 fate_unsupported stream place OutOfMemory a b = absurd b
 

@@ -8,7 +8,7 @@ use Rattle.runbook.specs.declared.book.ReadBook.TheVariants as read
 use Rattle.runbook.specs.Book.{IsBook, IsFirstFault}
 use Rattle.urpf_base.specs.RouteUpdates.{RouteUpdate}
 use Rattle.urpf_cli.specs.CheckOne.{Fate, IsRefused, status_of_fault}
-use Rattle.urpf_cli.specs.Session.{IsFaultAt, IsStrangeAt, Leaves}
+use Rattle.urpf_cli.specs.Session.{IsFaultAt, IsBadUpdateAt, IsStrangeAt, Leaves}
 use Rattle.urpf_cli.specs.Offline.{AreOfflineWords, HasBook, Merits}
 use Rattle.urpf_cli.specs.declared.check.TheConstants.{STREAM_OCTETS}
 use Rattle.urpf_cli.specs.declared.offline.TheConstants.{BOOK_OCTETS}
@@ -99,10 +99,17 @@ pub done_fate : (octets : List ℕ) (said : List (Option RouteUpdate)) (rest : �
 done_fate octets said rest short leaves = record { short = short; comes = (said, leaves.octets, leaves.read) }
 
 -- the status of a fault of a session is the fate of its stream, unless memory ran out
-fault_refused : {T : Type 0} (octets : List ℕ) (fault : SessionFault) (r : Result T SessionFault) → r ≡ Err fault → ((sub place : ℕ) → r ≡ Err (refusal.Header sub place) → IsFaultAt octets sub place) → ((place : ℕ) → r ≡ Err (refusal.Strange place) → IsStrangeAt octets place) → IsRefused octets (status_of_fault fault)
-fault_refused octets (refusal.Header sub place) r is header strange = (refl, header sub place is)
-fault_refused octets (refusal.Strange place) r is header strange = strange place is
-fault_refused octets refusal.OutOfMemory r is header strange = tt
+record Faulted {T : Type 0} (octets : List ℕ) (r : Result T SessionFault) : Type 0 where
+  header : (sub place : ℕ) → r ≡ Err (refusal.Header sub place) → IsFaultAt octets sub place
+  update : (sub place : ℕ) → r ≡ Err (refusal.Update sub place) → IsBadUpdateAt octets sub place
+  strange : (place : ℕ) → r ≡ Err (refusal.Strange place) → IsStrangeAt octets place
 
-pub fault_fate : {T : Type 0} (octets : List ℕ) (fault : SessionFault) (r : Result T SessionFault) → length octets ≤ STREAM_OCTETS → r ≡ Err fault → ((sub place : ℕ) → r ≡ Err (refusal.Header sub place) → IsFaultAt octets sub place) → ((place : ℕ) → r ≡ Err (refusal.Strange place) → IsStrangeAt octets place) → Fate octets (status_of_fault fault) ⊎ (status_of_fault fault ≡ OutOfMemory)
-fault_fate octets fault r short is header strange = refused_fate octets (status_of_fault fault) short (fault_refused octets fault r is header strange)
+fault_refused : {T : Type 0} (octets : List ℕ) (fault : SessionFault) (r : Result T SessionFault) → r ≡ Err fault → Faulted octets r → IsRefused octets (status_of_fault fault)
+fault_refused octets (refusal.Header sub place) r is faulted = inl (refl, faulted.header sub place is)
+fault_refused octets (refusal.Update sub place) r is faulted = inr (refl, faulted.update sub place is)
+fault_refused octets (refusal.Strange place) r is faulted = faulted.strange place is
+fault_refused octets refusal.OutOfMemory r is faulted = tt
+
+pub fault_fate : {T : Type 0} (octets : List ℕ) (fault : SessionFault) (r : Result T SessionFault) → length octets ≤ STREAM_OCTETS → r ≡ Err fault → ((sub place : ℕ) → r ≡ Err (refusal.Header sub place) → IsFaultAt octets sub place) → ((sub place : ℕ) → r ≡ Err (refusal.Update sub place) → IsBadUpdateAt octets sub place) → ((place : ℕ) → r ≡ Err (refusal.Strange place) → IsStrangeAt octets place) → Fate octets (status_of_fault fault) ⊎ (status_of_fault fault ≡ OutOfMemory)
+fault_fate octets fault r short is header update strange =
+    refused_fate octets (status_of_fault fault) short (fault_refused octets fault r is (record { header = header; update = update; strange = strange }))

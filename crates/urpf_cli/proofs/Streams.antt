@@ -1,5 +1,5 @@
 -- How far the reading of a stream has come, and what each step makes of it.
-use Rattle.std.proofs.Common.{◌≡◌, ℕ, suc, ◌+◌, ◌<◌, ◌≤◌, List, [], ◌∷◌, ◌++◌, length, take, drop, Option, Some, None, Result, Ok, Err, false, refl, inl, inr, ap, sym, ◌∙◌, append_assoc, length-append, arith}
+use Rattle.std.proofs.Common.{◌≡◌, ℕ, suc, ◌+◌, ◌<◌, ◌≤◌, List, [], ◌∷◌, ◌++◌, length, take, drop, Option, Some, None, Result, Ok, Err, false, refl, inl, inr, ap, sym, ◌∙◌, append_assoc, length-append, length-drop, arith}
 use Rattle.std.specs.List.{concat, AllByRecursion}
 use Rattle.std.specs.Prelude.{is_ok, is_err, if◌then◌else◌}
 use Rattle.std.proofs.lemmas.List.{take-append-drop, take_all}
@@ -7,13 +7,12 @@ use Rattle.std.proofs.lemmas.List.Folds.{concat-append}
 use Rattle.urpf_base.specs.RouteUpdates.{RouteUpdate}
 use Rattle.bgp_wire.specs.Header.{header_fault, type_field}
 use Rattle.bgp_wire.specs.Frames.{IsMessage, IsShort, IsFaulty}
-use Rattle.bgp_wire.specs.States.{kind_of}
+use Rattle.bgp_wire.specs.States.{FitsKind, kind_of}
 use Rattle.bgp_wire.specs.declared.kinds.MsgKind.{MsgKind}
 use Rattle.bgp_wire.specs.declared.kinds.MsgKind.TheVariants.{Update}
-use Rattle.bgp_update.specs.Plain.{IsPlain}
 use Rattle.bgp_wire.proofs.Headers.{header_fault-append}
 use Rattle.bgp_wire.proofs.Framings.{has_framing, lt_or_le}
-use Rattle.urpf_cli.specs.Session.{Says, SaysBy, SayAll, IsFaultAt, IsStrangeAt, Leaves}
+use Rattle.urpf_cli.specs.Session.{Says, SaysBy, SayAll, IsFaultAt, StopsAt, Leaves}
 
 -- the messages in front were read, and said this
 pub record Progress (stream rest : List ℕ) (said : List (Option RouteUpdate)) : Type 0 where
@@ -54,9 +53,6 @@ concat-between before after m rest =
     ∙ ap (λ t. concat before ++ t) (append_assoc m (concat after) rest)
 
 -- what a message says is told by its kind and its body
-says_by : (message body : List ℕ) (kind : MsgKind) (s : Option RouteUpdate) → kind ≡ kind_of (type_field message) → body ≡ drop 19 message → Says message s → SaysBy kind body s
-says_by message body kind s is_kind is_body says = rw (is_kind, is_body) says
-
 says_so : (message body : List ℕ) (kind : MsgKind) (s : Option RouteUpdate) → kind ≡ kind_of (type_field message) → body ≡ drop 19 message → SaysBy kind body s → Says message s
 says_so message body kind s is_kind is_body says = rw (is_kind, is_body) at says
 
@@ -115,9 +111,9 @@ stopped_by_fault stream rest count sub place said far is fault = record {
   counted = place_is far.done said place far.say is;
 }
 
--- the next message says nothing that is read
-pub stopped_by_strange : (stream rest : List ℕ) (count place : ℕ) (said : List (Option RouteUpdate)) (kind : MsgKind) (body : List ℕ) → Progress stream rest said → place ≡ length said + 1 → IsTaken rest count kind body → ((s : Option RouteUpdate) → SaysBy kind body s → ⊥) → IsStrangeAt stream place
-stopped_by_strange stream rest count place said kind body far is taken strange =
+-- the next message stops the reading
+pub stopped_by : (stream rest : List ℕ) (count place : ℕ) (said : List (Option RouteUpdate)) (kind : MsgKind) (body : List ℕ) (Reason : MsgKind → List ℕ → Type 0) → Progress stream rest said → place ≡ length said + 1 → IsTaken rest count kind body → Reason kind body → StopsAt stream place Reason
+stopped_by stream rest count place said kind body Reason far is taken reason =
     let more = has_framing (drop count rest) in
     record {
       before = far.done;
@@ -132,14 +128,15 @@ stopped_by_strange stream rest count place said kind body far is taken strange =
         ends = more.framed.ends;
       };
       say = far.say;
-      strange = λ s says. strange s (says_by (take count rest) body kind s taken.of_kind taken.has_body says);
+      reason = rw (taken.of_kind, taken.has_body) at reason;
       counted = place_is far.done said place far.say is;
     }
 
--- an UPDATE that is not read says nothing
-pub strange_update : (kind : MsgKind) (body : List ℕ) → kind ≡ Update → ((u : RouteUpdate) → IsPlain body u → ⊥) → (s : Option RouteUpdate) → SaysBy kind body s → ⊥
-strange_update kind body is strange None says = cc
-strange_update kind body is strange (Some u) says = strange u says.1
+-- the body of a message that is long enough for an UPDATE has both its lengths
+pub has_lengths : (held message body : List ℕ) (kind : MsgKind) → FitsKind kind (length held) → message ≡ held → body ≡ drop 19 message → kind ≡ Update → 4 ≤ length body
+has_lengths held message body kind long same is update =
+    let least : 23 ≤ length held = rw update at long in
+    omega (arith, least, ap length same, ap length is, length-drop 19 message)
 
 -- what a framer that was empty holds is what was cut off for it
 pub taken_now : (rest held message body : List ℕ) (count : ℕ) (kind : MsgKind) → held ≡ take count rest → message ≡ take count rest → IsMessage held → kind ≡ kind_of (type_field held) → body ≡ drop 19 message → IsTaken rest count kind body

@@ -7,10 +7,11 @@ use Rattle.urpf_base.specs.Lists.{Has, AreDistinct}
 use Rattle.urpf_base.specs.RouteUpdates.{RouteUpdate, HasRoute}
 use Rattle.ip_text.specs.Texts.{SpellsAddr}
 use Rattle.report_text.specs.Lines.{check_one_line}
-use Rattle.urpf_cli.specs.Session.{IsRead, IsFaultAt, IsStrangeAt, updates_of}
+use Rattle.urpf_cli.specs.Session.{IsRead, IsBadAt, IsStrangeAt, updates_of}
 use Rattle.urpf_cli.specs.declared.check.TheConstants.{STREAM_OCTETS}
+use Rattle.urpf_cli.specs.declared.session.TheConstants.{MESSAGE_HEADER_ERROR, UPDATE_MESSAGE_ERROR}
 use Rattle.urpf_cli.specs.declared.session.SessionFault.{SessionFault}
-use Rattle.urpf_cli.specs.declared.session.SessionFault.TheVariants.{Header, Strange}
+use Rattle.urpf_cli.specs.declared.session.SessionFault.TheVariants.{Header, Update, Strange}
 use Rattle.urpf_cli.specs.declared.session.SessionFault.TheVariants as fault
 use Rattle.urpf_cli.specs.declared.status.Object.TheVariants.{Book, Stream}
 use Rattle.urpf_cli.specs.declared.status.Status.{Status}
@@ -49,20 +50,21 @@ Fate stream (TooLong Book) = ⊥
 Fate stream (TooLong Stream) = STREAM_OCTETS < length stream
 Fate stream (ReadFault object) = ⊥
 Fate stream WriteFault = ⊥
-Fate stream (BadSession code sub place) = Within stream ((code ≡ 1) × IsFaultAt stream sub place)
+Fate stream (BadSession code sub place) = Within stream (IsBadAt stream code sub place)
 Fate stream (Unsupported place) = Within stream (IsStrangeAt stream place)
 Fate stream OutOfMemory = ⊥
 
 -- the status of a stream that cannot be read, or that memory could not be had for
 abbrev pub IsRefused : List ℕ → Status → Type 0
-IsRefused stream (BadSession code sub place) = (code ≡ 1) × IsFaultAt stream sub place
+IsRefused stream (BadSession code sub place) = IsBadAt stream code sub place
 IsRefused stream (Unsupported place) = IsStrangeAt stream place
 IsRefused stream OutOfMemory = Unit {0}
 IsRefused stream _ = ⊥
 
 -- the status that tells the fault of a stream
 abbrev pub status_of_fault : SessionFault → Status
-status_of_fault (Header sub place) = BadSession 1 sub place
+status_of_fault (Header sub place) = BadSession MESSAGE_HEADER_ERROR sub place
+status_of_fault (Update sub place) = BadSession UPDATE_MESSAGE_ERROR sub place
 status_of_fault (Strange place) = Unsupported place
 status_of_fault fault.OutOfMemory = OutOfMemory
 

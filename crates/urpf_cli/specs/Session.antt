@@ -1,17 +1,29 @@
 -- What the stream of an established session says, and where it cannot be read (RFC 4271, sections 4 and 6).
-use Rattle.std.specs.Prelude.{◌≡◌, ℕ, ◌+◌, List, [], ◌∷◌, ◌++◌, length, drop, Option, Some, None}
+use Rattle.std.specs.Prelude.{◌≡◌, ◌⊎◌, ℕ, ◌+◌, true, List, [], ◌∷◌, ◌++◌, length, drop, Option, Some, None}
 use Rattle.urpf_base.specs.RouteUpdates.{RouteUpdate}
 use Rattle.bgp_wire.specs.Header.{type_field}
 use Rattle.bgp_wire.specs.Frames.{Frames, End, Clean, Fault}
 use Rattle.bgp_wire.specs.States.{kind_of}
 use Rattle.bgp_wire.specs.declared.kinds.MsgKind.{MsgKind}
-use Rattle.bgp_wire.specs.declared.kinds.MsgKind.TheVariants.{Update, Keepalive}
-use Rattle.bgp_update.specs.Plain.{IsPlain}
+use Rattle.bgp_wire.specs.declared.kinds.MsgKind.TheVariants.{Open, Update, Notification, Keepalive}
+use Rattle.as_path.specs.declared.widths.Width.TheVariants.{Four}
+use Rattle.urpf_cli.specs.declared.session.TheConstants.{MESSAGE_HEADER_ERROR, UPDATE_MESSAGE_ERROR}
+use Rattle.bgp_update.specs.Faults.{IsFaultOf}
+use Rattle.bgp_update.specs.Update.{IsUpdate}
 
--- a message of this kind and body is a KEEPALIVE, which says nothing, or an UPDATE, which says this
+-- a message of this kind and body is a KEEPALIVE, which says nothing, or an UPDATE without a fault, which says this;
+-- the peer has AS numbers of four octets and listed IPv6 unicast
 abbrev pub SaysBy : MsgKind → List ℕ → Option RouteUpdate → Type 0
 SaysBy kind body None = kind ≡ Keepalive
-SaysBy kind body (Some update) = (kind ≡ Update) × IsPlain body update
+SaysBy kind body (Some update) = (kind ≡ Update) × IsUpdate Four true body update
+
+-- a message of this kind and body is an UPDATE with a fault of this subcode (RFC 4271, section 6.3)
+abbrev pub FailsBy : MsgKind → List ℕ → ℕ → Type 0
+FailsBy kind body sub = (kind ≡ Update) × IsFaultOf Four true body sub
+
+-- a message of this kind is none that an established session is read for
+abbrev pub IsForeign : MsgKind → Type 0
+IsForeign kind = (kind ≡ Open) ⊎ (kind ≡ Notification)
 
 -- the octets of a whole message say this
 abbrev pub Says : List ℕ → Option RouteUpdate → Type 0
@@ -45,8 +57,8 @@ pub record IsFaultAt (stream : List ℕ) (subcode place : ℕ) : Type 0 where
   pub say : SayAll messages said
   pub counted : place ≡ length messages + 1
 
--- the message at this place, counted from 1, is the first that says nothing that is read here
-pub record IsStrangeAt (stream : List ℕ) (place : ℕ) : Type 0 where
+-- the message at this place, counted from 1, stops the reading, for a reason in its kind and its body, and all messages before it can be read
+pub record StopsAt (stream : List ℕ) (place : ℕ) (Reason : MsgKind → List ℕ → Type 0) : Type 0 where
   pub before : List (List ℕ)
   pub message : List ℕ
   pub after : List (List ℕ)
@@ -55,8 +67,21 @@ pub record IsStrangeAt (stream : List ℕ) (place : ℕ) : Type 0 where
   pub end : End
   pub framed : Frames stream (before ++ message ∷ after) rest end
   pub say : SayAll before said
-  pub strange : (s : Option RouteUpdate) → Says message s → ⊥
+  pub reason : Reason (kind_of (type_field message)) (drop 19 message)
   pub counted : place ≡ length before + 1
+
+-- it is an UPDATE with a fault of this subcode
+abbrev pub IsBadUpdateAt : List ℕ → ℕ → ℕ → Type 0
+IsBadUpdateAt stream subcode place = StopsAt stream place (λ kind body. FailsBy kind body subcode)
+
+-- it is an OPEN or a NOTIFICATION
+abbrev pub IsStrangeAt : List ℕ → ℕ → Type 0
+IsStrangeAt stream place = StopsAt stream place (λ kind body. IsForeign kind)
+
+-- the message at this place has this error code and subcode: of its header, or of its body (RFC 4271, section 4.5)
+abbrev pub IsBadAt : List ℕ → ℕ → ℕ → ℕ → Type 0
+IsBadAt stream code subcode place =
+    ((code ≡ MESSAGE_HEADER_ERROR) × IsFaultAt stream subcode place) ⊎ ((code ≡ UPDATE_MESSAGE_ERROR) × IsBadUpdateAt stream subcode place)
 
 -- the stream is messages that say this, and so many octets are left after them
 pub record Leaves (stream : List ℕ) (said : List (Option RouteUpdate)) (rest : ℕ) : Type 0 where

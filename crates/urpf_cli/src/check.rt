@@ -7,9 +7,11 @@ ghost use Rattle.adj_rib.specs.Routes.{routes_at};
 ghost use Rattle.control_core.specs.Table.{HoldsRoutes};
 ghost use Rattle.urpf_cli.specs.declared.status.Status.{Status};
 ghost use Rattle.urpf_cli.specs.CheckOne.{Deserves, FitNoForm, IsCheckLine, IsQuiet, IsRefused, Within, status_of_fault, WritesFront, WritesLine};
-ghost use Rattle.urpf_cli.specs.Session.{IsFaultAt, IsStrangeAt, updates_of};
+ghost use Rattle.urpf_cli.specs.Session.{IsBadAt, IsStrangeAt, updates_of};
 
-use crate::session::{SessionFault, read_session};
+use crate::session::{
+    MESSAGE_HEADER_ERROR, SessionFault, UPDATE_MESSAGE_ERROR, read_session,
+};
 use crate::status::{Object, Status};
 use crate::words::check_source;
 use adj_rib::AdjRib;
@@ -42,7 +44,7 @@ pub fn check_one<S: Source, K: Sink>(
     ensures too_long { result ≡ Status.TooLong Object.Stream
         → IfSome (S.left session.old) (λ stream. STREAM_OCTETS < length stream) }
     ensures bad_session { (code sub place : ℕ) → result ≡ Status.BadSession code sub place
-        → IfSome (S.left session.old) (λ stream. Within stream ((code ≡ 1) × IsFaultAt stream sub place)) }
+        → IfSome (S.left session.old) (λ stream. Within stream (IsBadAt stream code sub place)) }
     ensures unsupported { (place : ℕ) → result ≡ Status.Unsupported place
         → IfSome (S.left session.old) (λ stream. Within stream (IsStrangeAt stream place)) }
 
@@ -75,9 +77,6 @@ pub fn check_one<S: Source, K: Sink>(
         Err(status) => status,
     }
 }
-
-/// Message Header Error (RFC 4271, section 4.5).
-const MESSAGE_HEADER_ERROR: u8 = 1;
 
 /// Writes the line for the source into the empty line, or says why the stream cannot be read.
 fn judge(alloc: Global, stream: &[u8], source: &Addr, line: &mut Line) -> Result<(), Status>
@@ -118,6 +117,11 @@ pub fn status_of(fault: SessionFault) -> Status
     match fault {
         SessionFault::Header { sub, place } => Status::BadSession {
             code: MESSAGE_HEADER_ERROR,
+            sub,
+            place,
+        },
+        SessionFault::Update { sub, place } => Status::BadSession {
+            code: UPDATE_MESSAGE_ERROR,
             sub,
             place,
         },

@@ -7,7 +7,7 @@ ghost use Rattle.runbook.specs.Book.{IsFirstFault};
 ghost use Rattle.urpf_cli.specs.declared.status.Status.{Status};
 ghost use Rattle.urpf_cli.specs.CheckOne.{Within, IsQuiet};
 ghost use Rattle.urpf_cli.specs.Offline.{AreOfflineWords, Merits, WritesRun, WritesRunFront};
-ghost use Rattle.urpf_cli.specs.Session.{IsFaultAt, IsStrangeAt};
+ghost use Rattle.urpf_cli.specs.Session.{IsBadAt, IsStrangeAt};
 
 use crate::check::{STREAM_OCTETS, status_of};
 use crate::session::read_session;
@@ -47,7 +47,7 @@ pub fn offline_stream<S: Source, K: Sink>(
     ensures too_long { result ≡ Status.TooLong Object.Stream
         → IfSome (S.left stream.old) (λ octets. STREAM_OCTETS < length octets) }
     ensures bad_session { (code sub place : ℕ) → result ≡ Status.BadSession code sub place
-        → IfSome (S.left stream.old) (λ octets. Within octets ((code ≡ 1) × IsFaultAt octets sub place)) }
+        → IfSome (S.left stream.old) (λ octets. Within octets (IsBadAt octets code sub place)) }
     ensures unsupported { (place : ℕ) → result ≡ Status.Unsupported place
         → IfSome (S.left stream.old) (λ octets. Within octets (IsStrangeAt octets place)) }
     ensures write_fault { result ≡ Status.WriteFault

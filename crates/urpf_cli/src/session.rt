@@ -1,14 +1,21 @@
 //! The stream of an established session, read whole: its octets come in, and what its messages say
 //! and how much of a message is left go out, or the first message that cannot be read
 //! (RFC 4271, sections 4 and 6).
-ghost use Rattle.std.specs.Prelude.{◌≡◌, ℕ, Option, Err, IfOk, length};
+ghost use Rattle.std.specs.Prelude.{◌≡◌, ◌≤◌, ℕ, Option, Err, IfOk, length};
+ghost use Rattle.bgp_wire.specs.declared.kinds.MsgKind.{MsgKind};
 ghost use Rattle.urpf_base.specs.RouteUpdates.{RouteUpdate};
-ghost use Rattle.bgp_update.specs.Plain.{IsPlain};
-ghost use Rattle.urpf_cli.specs.Session.{IsFaultAt, IsStrangeAt, Leaves, SaysBy};
+ghost use Rattle.urpf_cli.specs.Session.{FailsBy, IsBadUpdateAt, IsFaultAt, IsForeign, IsStrangeAt, Leaves, SaysBy};
 
-use bgp_update::{UpdateView, read_update};
+use as_path::Width;
+use bgp_update::{UpdateFault, UpdateView, read_update};
 use bgp_wire::{FrameState, Framer, MsgKind};
 use std::alloc::Global;
+
+/// Message Header Error (RFC 4271, section 4.5).
+pub const MESSAGE_HEADER_ERROR: u8 = 1;
+
+/// UPDATE Message Error (RFC 4271, section 4.5).
+pub const UPDATE_MESSAGE_ERROR: u8 = 3;
 
 /// The octets of a header (RFC 4271, section 4.1).
 const HEADER_OCTETS: usize = 19;
@@ -27,7 +34,9 @@ pub struct Session<'a> {
 pub enum SessionFault {
     /// The header of the message at this place has this subcode.
     Header { sub: u8, place: u64 },
-    /// The message at this place is neither a KEEPALIVE nor an UPDATE that is read here.
+    /// The message at this place is an UPDATE with a fault of this subcode.
+    Update { sub: u8, place: u64 },
+    /// The message at this place is an OPEN or a NOTIFICATION.
     Strange { place: u64 },
     /// Memory could not be had for an item.
     OutOfMemory,
@@ -38,6 +47,8 @@ pub fn read_session<'a>(alloc: Global, stream: &'a [u8]) -> Result<Session<'a>, 
     ensures read { IfOk result (λ s. Leaves stream.now s.items.items s.rest) }
     ensures header { (sub place : ℕ) → result ≡ Err (SessionFault.Header sub place)
         → IsFaultAt stream.now sub place }
+    ensures update { (sub place : ℕ) → result ≡ Err (SessionFault.Update sub place)
+        → IsBadUpdateAt stream.now sub place }
     ensures strange { (place : ℕ) → result ≡ Err (SessionFault.Strange place)
         → IsStrangeAt stream.now place }
 {
@@ -74,22 +85,24 @@ pub fn read_session<'a>(alloc: Global, stream: &'a [u8]) -> Result<Session<'a>, 
 }
 
 /// What the message of this kind and body, the one at this place, says.
-fn read_item<'a>(
+fn read_item(
     kind: MsgKind,
-    body: &'a [u8],
+    body: &[u8],
     place: u64,
-) -> Result<Option<UpdateView<'a>>, SessionFault>
+) -> Result<Option<UpdateView<'_>>, SessionFault>
+    requires { kind ≡ MsgKind.Update → 4 ≤ length body.now }
     ensures found { IfOk result (SaysBy kind body.now) }
     ensures header { (sub at : ℕ) → result ≡ Err (SessionFault.Header sub at) → ⊥ }
-    ensures place { (at : ℕ) → result ≡ Err (SessionFault.Strange at) → at ≡ place }
+    ensures update { (sub at : ℕ) → result ≡ Err (SessionFault.Update sub at)
+        → (at ≡ place) × FailsBy kind body.now sub }
     ensures strange { (at : ℕ) → result ≡ Err (SessionFault.Strange at)
-        → (s : Option RouteUpdate) → SaysBy kind body.now s → ⊥ }
+        → (at ≡ place) × IsForeign kind }
 {
     match kind {
         MsgKind::Keepalive => Ok(None),
-        MsgKind::Update => match read_update(body) {
-            Some(update) => Ok(Some(update)),
-            None => Err(SessionFault::Strange { place }),
+        MsgKind::Update => match read_update(body, Width::Four, true) {
+            Ok(update) => Ok(Some(update)),
+            Err(UpdateFault { sub }) => Err(SessionFault::Update { sub, place }),
         },
         MsgKind::Open | MsgKind::Notification => Err(SessionFault::Strange { place }),
     }

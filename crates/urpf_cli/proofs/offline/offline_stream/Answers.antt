@@ -18,7 +18,7 @@ pub returns-in-Err-clause-exact : goal.returns-in-Err-clause-exact
 returns-in-Err-clause-exact g c = λ status merit book stream out.
     let octets = c.in-Ok-read_text.octets.items in
     let told = status_of_fault c.in-Err.fault in
-    elim (fault_fate octets c.in-Err.fault c.read_session.result (omega (arith, c.in-Ok-read_text.octets.ok.0, c.in-Ok-read_text.ensures.within)) c.in-Err.is (rw c.deref-2.ensures.value at c.read_session.ensures.header) (rw c.deref-2.ensures.value at c.read_session.ensures.strange)) [
+    elim (fault_fate octets c.in-Err.fault c.read_session.result (omega (arith, c.in-Ok-read_text.octets.ok.0, c.in-Ok-read_text.ensures.within)) c.in-Err.is (rw c.deref-2.ensures.value at c.read_session.ensures.header) (rw c.deref-2.ensures.value at c.read_session.ensures.update) (rw c.deref-2.ensures.value at c.read_session.ensures.strange)) [
       | inl fate ↦ inl (c.status_of.ensures ∙ stream_alone (map string_bytes c.args.words.now) (g.S.Source.left c.args.book.now) (g.S.Source.left c.args.stream.now) c.in-Ok.text.items c.in-Ok-read_book.book c.read_book.result told status c.in-Ok.ensures.whole (c.if-not-are_offline.ensures.0 refl) (omega (arith, c.in-Ok.text.ok.0, c.in-Ok.ensures.within)) c.in-Ok-read_book.is (rw c.deref.ensures.value at c.read_book.ensures.only_bad) (fate_of_whole (g.S.Source.left c.args.stream.now) octets told c.in-Ok-read_text.ensures.whole fate) merit)
       | inr memory ↦ inr (c.status_of.ensures ∙ memory)
     ]

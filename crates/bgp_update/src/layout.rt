@@ -3,8 +3,6 @@
 ghost use Rattle.std.specs.Prelude.{◌≡◌, ℕ, List, IfSome, IsSomeAnd};
 ghost use Rattle.bgp_update.specs.Layout.{IsCounted, IsLaidOut};
 
-use byteorder::{BigEndian, ByteOrder};
-
 /// The fields of a body, which they borrow.
 #[derive(Clone, Copy)]
 pub struct Fields<'a> {
@@ -41,13 +39,12 @@ fn counted_field(text: &[u8]) -> Option<(&[u8], &[u8])>
     ensures only { (field rest : List ℕ) → IsCounted text.now field rest
         → IsSomeAnd result (λ x. (x.0.now ≡ field) × (x.1.now ≡ rest)) }
 {
-    if text.len() < 2 {
+    let [high, low, rest @ ..] = text else {
+        return None;
+    };
+    let count = u16::from_be_bytes([*high, *low]) as usize;
+    if rest.len() < count {
         return None;
     }
-    let (size, text) = text.split_at(2);
-    let count = BigEndian::read_u16(size) as usize;
-    if text.len() < count {
-        return None;
-    }
-    Some(text.split_at(count))
+    Some(rest.split_at(count))
 }

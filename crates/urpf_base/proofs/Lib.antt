@@ -1,6 +1,8 @@
+pub mod Alike
 pub mod Bits
 pub mod Copying
 pub mod Growth
 pub mod Membership
+pub mod Order
 pub mod RouteUpdates
 pub mod Series

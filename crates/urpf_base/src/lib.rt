@@ -5,6 +5,7 @@
 mod address;
 mod counting;
 mod interfaces;
+mod laws;
 mod line_buffer;
 mod memory;
 mod origins;
@@ -18,6 +19,7 @@ mod writing;
 pub use address::Addr;
 pub use counting::Steps;
 pub use interfaces::{IFACE_LIMIT, IfaceId};
+pub use laws::order_of_prefixes;
 pub use line_buffer::Line;
 pub use memory::{MemSink, MemSource, SureSink, SureSource};
 pub use origins::Origin;

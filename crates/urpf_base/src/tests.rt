@@ -3,7 +3,7 @@ ghost use Rattle.std.specs.Prelude.{◌≡◌, ◌<◌};
 
 use crate::{
     Addr, Failed, IfaceId, MemSink, MemSource, Prefix, Sink, Steps, SureSink, SureSource,
-    TextFault, read_text, write_all,
+    TextFault, order_of_prefixes, read_text, write_all,
 };
 use std::alloc::Global;
 use std::marker::Brand;
@@ -33,6 +33,7 @@ fn prefixes_are_ordered_by_family_address_and_length(rt: HostRuntime) -> Result<
     assert!(rt; all < longer, "a shorter prefix comes first");
     assert!(rt; longer < later, "a lesser address comes first");
     assert!(rt; later < all_of_v6, "IPv4 comes first");
+    order_of_prefixes();
     Ok(())
 }
 

@@ -1,5 +1,5 @@
-//! The texts of addresses and numbers: octets come in and an address goes out, or an address or a
-//! number comes in and is appended to a line.
+//! The texts of addresses and numbers: octets come in and an address or a number goes out, or an
+//! address or a number comes in and is appended to a line.
 #![tactic(auto)]
 
 mod cutting;
@@ -8,6 +8,7 @@ mod numbers;
 mod printing;
 mod reading;
 
+pub use numbers::read_number;
 pub use printing::{put_addr, put_number};
 pub use reading::read_addr;
 

@@ -6,8 +6,9 @@ ghost use Rattle.std.specs.Option.{IfSome, SomeIff};
 ghost use Rattle.std.specs.Str.Parse.{digits_value};
 ghost use Rattle.ip_text.specs.Numbers.{StartsWell, WritesUpTo};
 
-/// The number that the whole text writes in decimal without leading zeros, at most `most`.
-pub(crate) fn read_number(text: &[u8], most: u32) -> Option<u32>
+/// The number that the whole text writes in decimal without leading zeros, from 0 to `most`. None
+/// where the text writes no number so, or a greater one.
+pub fn read_number(text: &[u8], most: u32) -> Option<u32>
     ensures found { IfSome result (λ n. (n ≤ most) × (text.now ≡ decimal n)) }
     ensures only { (n : ℕ) → n ≤ most → text.now ≡ decimal n → result ≡ Some n }
 {

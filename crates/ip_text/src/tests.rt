@@ -1,5 +1,5 @@
 //! The texts of addresses, and what is off the grammar.
-use crate::{put_addr, put_number, read_addr};
+use crate::{put_addr, put_number, read_addr, read_number};
 use std::test::Fail;
 use urpf_base::{Addr, Line};
 
@@ -102,5 +102,21 @@ fn a_number_is_printed(rt: HostRuntime) {
         let mut line = Line::new();
         put_number(number, &mut line);
         assert_eq!(rt; line.bytes(), text);
+    }
+}
+
+#[test]
+fn a_number_is_read_up_to_its_bound(rt: HostRuntime) {
+    for (text, most, number) in [
+        (b"0".as_slice(), 0, Some(0)),
+        (b"65535".as_slice(), 65535, Some(65535)),
+        (b"65536".as_slice(), 65535, None),
+        (b"4294967295".as_slice(), u32::MAX, Some(u32::MAX)),
+        (b"4294967296".as_slice(), u32::MAX, None),
+        (b"00".as_slice(), 9, None),
+        (b"".as_slice(), 9, None),
+        (b"+1".as_slice(), 9, None),
+    ] {
+        assert_eq!(rt; read_number(text, most), number, "{text:?}");
     }
 }

@@ -5,6 +5,19 @@ ghost use Rattle.bgp_wire.specs.Frames.{Framing, IsMessage};
 ghost use Rattle.bgp_wire.specs.Header.{header_fault, length_field, type_field};
 ghost use Rattle.bgp_wire.specs.States.{FitsKind, kind_of};
 
+use crate::header::{
+    BAD_MESSAGE_LENGTH, BAD_MESSAGE_TYPE, CONNECTION_NOT_SYNCHRONIZED, KEEPALIVE, NOTIFICATION,
+    OPEN, UPDATE,
+};
+
+/// The subcodes and the types have the numbers that the standard assigns (RFC 4271, sections 4.1
+/// and 6.1). Contracts and definitions cite them by name.
+pub fn assigned_numbers()
+    ensures subcodes { (CONNECTION_NOT_SYNCHRONIZED ≡ 1) × (BAD_MESSAGE_LENGTH ≡ 2)
+        × (BAD_MESSAGE_TYPE ≡ 3) }
+    ensures types { (OPEN ≡ 1) × (UPDATE ≡ 2) × (NOTIFICATION ≡ 3) × (KEEPALIVE ≡ 4) }
+{}
+
 /// Each stream is whole messages, a rest and an end in one way and no other (RFC 4271, section 4.1).
 pub fn one_framing()
     ensures some { (stream : List ℕ) → Framing stream }

@@ -12,7 +12,7 @@ mod laws;
 pub use framer::Framer;
 pub use header::{BAD_MESSAGE_LENGTH, BAD_MESSAGE_TYPE, CONNECTION_NOT_SYNCHRONIZED};
 pub use kinds::{FrameState, MsgKind};
-pub use laws::{header_decides, one_framing};
+pub use laws::{assigned_numbers, header_decides, one_framing};
 
 #[cfg(test)]
 mod tests;

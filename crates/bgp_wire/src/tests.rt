@@ -1,5 +1,5 @@
 //! What no clause says: headers made by hand, and one message that comes in every cut.
-use crate::{FrameState, Framer, MsgKind};
+use crate::{FrameState, Framer, MsgKind, assigned_numbers, header_decides, one_framing};
 
 /// An UPDATE that announces 198.51.100.0/24 with the path 64501 and the next hop 192.0.2.1.
 const UPDATE: [u8; 47] = [
@@ -72,6 +72,9 @@ fn a_header_is_judged_by_its_first_fault(rt: HostRuntime) {
         assert_eq!(rt; framer.push(&octets), 19, "{name}");
         assert_eq!(rt; framer.state(), state, "{name}");
     }
+    assigned_numbers();
+    header_decides();
+    one_framing();
 }
 
 #[test]

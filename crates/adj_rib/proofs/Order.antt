@@ -9,20 +9,15 @@ use Rattle.urpf_base.specs.Address.{Block}
 use Rattle.urpf_base.specs.declared.address.Addr.{Addr}
 use Rattle.urpf_base.specs.declared.address.Addr.TheVariants.{V4, V6}
 use Rattle.urpf_base.specs.contracts.prefixes.PrefixOrd.TheImpl as prefix_ord
-use Rattle.adj_rib.specs.Order.{addr_order, prefix_order}
+use Rattle.urpf_base.specs.Order.{addr_order, prefix_order}
+use Rattle.urpf_base.proofs.Order.{compares}
 
 -- what the comparison of the type computes
 abbrev pub own_order : Block → Block → Ordering
 own_order = (prefix_ord.ghosts).cmp
 
-own_parts : (a b : Addr) (m n : ℕ) → own_order (record { addr = a; len = m }) (record { addr = b; len = n }) ≡ ordering_then (addr_order a b) (nat_cmp m n)
-own_parts (V4 a) (V4 b) m n = refl
-own_parts (V4 a) (V6 b) m n = refl
-own_parts (V6 a) (V4 b) m n = refl
-own_parts (V6 a) (V6 b) m n = refl
-
 pub own_order-is : own_order ≡ prefix_order
-own_order-is i x y = own_parts x.addr y.addr x.len y.len i
+own_order-is i x y = compares x y i
 
 abbrev family : Addr → ℕ
 family (V4 a) = 0

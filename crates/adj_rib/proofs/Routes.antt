@@ -6,7 +6,8 @@ use Rattle.std.specs.declared.cmp.Ordering.TheVariants.{Less}
 use Rattle.std.specs.FinMap.{entries_sorted, get-entries, is_sorted, same_map}
 use Rattle.urpf_base.specs.Address.{Block}
 use Rattle.urpf_base.specs.Lists.{Has, AreDistinct}
-use Rattle.adj_rib.specs.Order.{prefix_order, is_after, IsAscending}
+use Rattle.urpf_base.specs.Order.{prefix_order}
+use Rattle.adj_rib.specs.Order.{is_after, IsAscending}
 use Rattle.adj_rib.specs.Routes.{Routes, routes_at, prefixes_of, pairs_of, pairs_after}
 use Rattle.adj_rib.proofs.Walk.{Pair, walk, first_has}
 use Rattle.adj_rib.proofs.Order.{prefix_total, prefix_ties}

@@ -11,7 +11,8 @@ use Rattle.std.specs.List.Sorted.{IsStrictlySortedBy}
 use Rattle.std.specs.Map.{keys_of, lookup}
 use Rattle.std.specs.FinMap.{from_sorted, find, is_sorted, entries-from_sorted, get-from_sorted}
 use Rattle.urpf_base.specs.Address.{Block}
-use Rattle.adj_rib.specs.Order.{prefix_order, is_after}
+use Rattle.urpf_base.specs.Order.{prefix_order}
+use Rattle.adj_rib.specs.Order.{is_after}
 use Rattle.adj_rib.specs.Routes.{Routes, ChangesAt, routes_at, pairs_of, prefixes_of, pairs_after}
 use Rattle.adj_rib.proofs.Order.{own_order, own_order-is, prefix_total, no_tie}
 use Rattle.adj_rib.proofs.Sorted.{sorted, find-lookup}

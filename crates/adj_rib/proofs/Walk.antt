@@ -8,7 +8,8 @@ use Rattle.std.specs.List.{AllByRecursion, filter}
 use Rattle.std.specs.FinMap.{is_sorted}
 use Rattle.urpf_base.specs.Address.{Block}
 use Rattle.urpf_base.specs.Lists.{Has}
-use Rattle.adj_rib.specs.Order.{prefix_order, is_after}
+use Rattle.urpf_base.specs.Order.{prefix_order}
+use Rattle.adj_rib.specs.Order.{is_after}
 use Rattle.adj_rib.proofs.Order.{prefix_total}
 use Rattle.adj_rib.proofs.Sorted.{head_below, tail_sorted, filter_all}
 

@@ -3,7 +3,8 @@ use Rattle.std.specs.Prelude.{◌≡◌, ℕ, List, Option}
 use Rattle.std.specs.FinMap.{FinMap, get, entries, keys}
 use Rattle.std.specs.List.{filter}
 use Rattle.urpf_base.specs.Address.{Block}
-use Rattle.adj_rib.specs.Order.{prefix_order, is_after}
+use Rattle.urpf_base.specs.Order.{prefix_order}
+use Rattle.adj_rib.specs.Order.{is_after}
 
 -- an origin for each of finitely many prefixes; the origin is an AS or none
 abbrev pub Routes : Type 0

@@ -3,7 +3,8 @@ ghost use Rattle.std.specs.Prelude.{◌≡◌, ◌↔◌, [], ◌∷◌, length,
 ghost use Rattle.std.specs.BTreeMap.Range.{is_from_start};
 ghost use Rattle.urpf_base.specs.Address.{Block, Covers};
 ghost use Rattle.urpf_base.specs.Lists.{Has};
-ghost use Rattle.adj_rib.specs.Order.{is_after, prefix_order};
+ghost use Rattle.urpf_base.specs.Order.{prefix_order};
+ghost use Rattle.adj_rib.specs.Order.{is_after};
 ghost use Rattle.adj_rib.specs.Routes.{ChangesAt, pairs_after, prefixes_of, routes_at};
 
 use std::alloc::Global;
@@ -21,7 +22,7 @@ pub struct AdjRib {
 impl Model for AdjRib {
     ghost use Rattle.std.specs.Prelude.{IsTrue};
     ghost use Rattle.std.specs.FinMap.{from_sorted, is_sorted};
-    ghost use Rattle.adj_rib.specs.Order.{prefix_order};
+    ghost use Rattle.urpf_base.specs.Order.{prefix_order};
     ghost use Rattle.adj_rib.specs.Routes.{Routes};
     ghost use Rattle.adj_rib.specs.Stored.{routes_code};
 

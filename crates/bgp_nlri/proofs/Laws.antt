@@ -1,11 +1,10 @@
 -- A field of prefixes is one prefix after the other, and the first of them is read by a function.
-use Rattle.std.proofs.Common.{◌≡◌, ℕ, ◌<◌, ◌≤◌, Bool, true, false, List, [], ◌∷◌, ◌++◌, length, take, Option, Some, None, if◌then◌else◌, nat_lt, refl, ap, sym, subst, ◌∙◌, length-append, arith, zero, suc, ◌==◌, ◌↔◌, IsTrue, ltb-false, le-ltb}
+use Rattle.std.proofs.Common.{◌≡◌, ℕ, ◌<◌, ◌≤◌, Bool, true, false, List, [], ◌∷◌, ◌++◌, length, take, Some, None, if◌then◌else◌, nat_lt, refl, ap, sym, subst, ◌∙◌, length-append, arith, ltb-false, le-ltb}
 use Rattle.std.proofs.lemmas.List.{take-append-drop, length-take-le}
 use Rattle.std.proofs.Math.Seq.{take-append_seam, drop-append_seam}
-use Rattle.std.specs.Option.{option_map}
 use Rattle.urpf_base.specs.Address.{Block, block_of}
 use Rattle.urpf_base.specs.Series.{Begins, ReadsFront}
-use Rattle.urpf_base.proofs.Series.{values_in-none, values_in-some, values_in-spelled, spells-more, spells-less, spells_nothing, rest_shorter}
+use Rattle.urpf_base.proofs.Series.{values_in-none, values_in-some, values_in-spelled, rest_shorter}
 use Rattle.bgp_nlri.specs.declared.family.Family.{Family}
 use Rattle.bgp_nlri.specs.Nlri.{octets_for, bits_of, addr_from, filled_up, SpellsPrefix, SpellsPrefixes}
 use Rattle.bgp_nlri.specs.Front.{cut_prefix, prefix_front, prefixes_in}
@@ -67,54 +66,6 @@ in_spelled family text prefixes spelled = values_in-spelled (prefix_front family
 pub spelled_in : (family : Family) (text : List ℕ) (prefixes : List Block) → SpellsPrefixes family text prefixes → SpellsPrefixes family text (prefixes_in family text)
 spelled_in family text prefixes spelled = subst (λ (ps : List Block). SpellsPrefixes family text ps) (sym (in_spelled family text prefixes spelled)) spelled
 
--- the rest spells prefixes exactly where the field does
-pub record SpellsAlike (family : Family) (field rest : List ℕ) : Type 0 where
-  pub more : (prefixes : List Block) × SpellsPrefixes family rest prefixes → (prefixes : List Block) × SpellsPrefixes family field prefixes
-  pub less : (prefixes : List Block) × SpellsPrefixes family field prefixes → (prefixes : List Block) × SpellsPrefixes family rest prefixes
-
-pub alike_whole : (family : Family) (field : List ℕ) → SpellsAlike family field field
-alike_whole family field = record { more = λ s. s; less = λ s. s }
-
-some_more : (family : Family) (text rest : List ℕ) (x : Block) → prefix_front family text ≡ Some (x, rest) → (prefixes : List Block) × SpellsPrefixes family rest prefixes → (prefixes : List Block) × SpellsPrefixes family text prefixes
-some_more family text rest x found s = (x ∷ s.0, spells-more (prefix_front family) (front_reads family) text rest x s.0 found s.1)
-
-some_less : (family : Family) (text rest : List ℕ) (x : Block) → prefix_front family text ≡ Some (x, rest) → (prefixes : List Block) × SpellsPrefixes family text prefixes → (prefixes : List Block) × SpellsPrefixes family rest prefixes
-some_less family text rest x found s =
-    let l = spells-less (prefix_front family) (front_reads family) text rest x s.0 found s.1 in
-    (l.0, l.2)
-
--- one prefix taken off the rest
-pub alike_further : {family : Family} {field text : List ℕ} → SpellsAlike family field text → (rest : List ℕ) (x : Block) → prefix_front family text ≡ Some (x, rest) → SpellsAlike family field rest
-alike_further {family} {field} {text} alike rest x found = record {
-  more = λ s. alike.more (some_more family text rest x found s);
-  less = λ s. some_less family text rest x found (alike.less s);
-}
-
--- nothing left: the field spells prefixes
-pub alike_end : {family : Family} {field : List ℕ} → (rest : List ℕ) → SpellsAlike family field rest → length rest ≡ 0 → (prefixes : List Block) × SpellsPrefixes family field prefixes
-alike_end [] alike none = alike.more ([], refl)
-alike_end (n ∷ rest) alike none = absurd (omega (arith, none))
-
--- something left that begins with no prefix: the field spells none
-pub alike_stuck : {family : Family} {field text : List ℕ} → SpellsAlike family field text → prefix_front family text ≡ None → 0 < length text → (prefixes : List Block) × SpellsPrefixes family field prefixes → ⊥
-alike_stuck {family} {field} {text} alike none some s =
-    let l = alike.less s in
-    spells_nothing (prefix_front family) (front_reads family) text l.0 none some l.1
-
 -- taking a prefix off leaves less
 pub shorter : (family : Family) (text rest : List ℕ) (x : Block) → prefix_front family text ≡ Some (x, rest) → length rest < length text
 shorter family text rest x found = rest_shorter (front_reads family) text rest x found
-
--- a text that is told not to be empty has an octet
-pub not_empty : (n : ℕ) (told : Bool) → told ≡ (n == 0) → told ≡ false → 0 < n
-not_empty zero told is_told untold = absurd cc
-not_empty (suc n) told is_told untold = omega arith
-
--- what is read of nothing is nothing
-pub none_read : {A B : Type 0} (f : A → B) (o : Option A) (r : Option B) → option_map f o ≡ r → o ≡ None → r ≡ None
-none_read f None r read none = sym read
-none_read f (Some x) r read none = absurd cc
-
--- the answer is no where the fact cannot hold
-pub answers_no : {P : Type 0} → (P → ⊥) → IsTrue false ↔ P
-answers_no never = (λ yes. absurd cc, λ p. absurd (never p))

@@ -1,4 +1,3 @@
-pub mod Alike
 pub mod HopLaws
 pub mod NumberLaws
 pub mod PathLaws

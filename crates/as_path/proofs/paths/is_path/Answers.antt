@@ -1,5 +1,5 @@
 use Rattle.std.proofs.Common.{sym}
-use Rattle.as_path.proofs.Alike.{alike_further, alike_stuck, not_empty, none_read, answers_no}
+use Rattle.urpf_base.proofs.Alike.{alike_further, alike_stuck, not_empty, none_read, answers_no}
 use Rattle.as_path.proofs.PathLaws.{segment_reads, shorter}
 use Rattle.as_path.proofs.paths.is_path.Goals as goal
 

@@ -1,6 +1,6 @@
 use Rattle.std.proofs.Common.{length}
 use Rattle.as_path.specs.Path.{SpellsSegment}
-use Rattle.as_path.proofs.Alike.{SpellsAlike}
+use Rattle.urpf_base.proofs.Alike.{SpellsAlike}
 use Rattle.as_path.proofs.paths.is_path.Given as goal
 
 abbrev pub invariant-loop-rest : goal.invariant-loop-rest

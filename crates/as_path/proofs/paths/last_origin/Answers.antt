@@ -1,6 +1,6 @@
 use Rattle.std.proofs.Common.{ap, sym, ◌∙◌}
 use Rattle.as_path.specs.Front.{segments_in}
-use Rattle.as_path.proofs.Alike.{none_read}
+use Rattle.urpf_base.proofs.Alike.{none_read}
 use Rattle.as_path.proofs.HopLaws.{ending, ending-first, ending-none, ending_is_origin}
 use Rattle.as_path.proofs.paths.last_origin.Goals as goal
 

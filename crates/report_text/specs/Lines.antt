@@ -28,21 +28,21 @@ end_line session items rest = codes "end " ++ decimal session ++ codes " items "
 abbrev pub done_line : ℕ → ℕ → List ℕ
 done_line publications packets = codes "done publications " ++ decimal publications ++ codes " packets " ++ decimal packets ++ codes "\n"
 
--- whether the source address passes
-abbrev pub verdict_word : Bool → List ℕ
-verdict_word pass = if pass then codes "pass" else codes "drop"
-
--- the check of one source against one session: its messages, its prefixes, and the octets after its last whole message
-abbrev pub check_one_line : Addr → Bool → ℕ → ℕ → ℕ → List ℕ
-check_one_line addr pass messages prefixes rest =
-    codes "check " ++ addr_text addr ++ codes " " ++ verdict_word pass ++ codes " messages " ++ decimal messages ++ codes " prefixes " ++ decimal prefixes ++ codes " rest " ++ decimal rest ++ codes "\n"
-
 -- what a verdict is called
 abbrev pub verdict_text : Verdict → List ℕ
 verdict_text Pass = codes "pass"
 verdict_text Drop = codes "drop"
 verdict_text BadHead = codes "badhead"
 verdict_text NoIface = codes "noif"
+
+-- whether the source address passes
+abbrev pub verdict_of : Bool → Verdict
+verdict_of pass = if pass then Pass else Drop
+
+-- the check of one source against one session: its messages, its prefixes, and the octets after its last whole message
+abbrev pub check_one_line : Addr → Bool → ℕ → ℕ → ℕ → List ℕ
+check_one_line addr pass messages prefixes rest =
+    codes "check " ++ addr_text addr ++ codes " " ++ verdict_text (verdict_of pass) ++ codes " messages " ++ decimal messages ++ codes " prefixes " ++ decimal prefixes ++ codes " rest " ++ decimal rest ++ codes "\n"
 
 -- the check of a source on an interface against the publication of this number
 abbrev pub check_line : ℕ → Addr → Verdict → ℕ → List ℕ

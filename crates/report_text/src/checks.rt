@@ -4,7 +4,7 @@
 //! `check ADDR V messages M prefixes P rest R` or `check I ADDR V N` with a line feed, where V is
 //! `pass` or `drop`.
 ghost use Rattle.std.specs.Prelude.{◌≡◌, ◌⊎◌, ◌+◌, ◌≤◌, [], ◌++◌, length};
-ghost use Rattle.report_text.specs.Lines.{check_line, check_one_line, verdict_text, verdict_word};
+ghost use Rattle.report_text.specs.Lines.{check_line, check_one_line, verdict_of, verdict_text};
 
 use crate::fields::put_field;
 use ip_text::put_addr;
@@ -19,7 +19,7 @@ pub fn put_one(addr: &Addr, pass: bool, messages: u64, prefixes: u64, rest: u64,
     to.push(b"check ");
     put_addr(addr, to);
     to.push(b" ");
-    put_word(pass, to);
+    put_verdict(verdict_of(pass), to);
     put_field(b" messages ", messages, to);
     put_field(b" prefixes ", prefixes, to);
     put_field(b" rest ", rest, to);
@@ -55,15 +55,9 @@ fn put_verdict(verdict: Verdict, to: &mut Line)
     }
 }
 
-/// `pass` or `drop`.
-fn put_word(pass: bool, to: &mut Line)
-    requires { length to.old + 4 ≤ 8192 }
-    ensures text { to.new ≡ to.old ++ verdict_word pass }
-    ensures short { length to.new ≡ length to.old + 4 }
+/// The verdict on a source that passes or does not.
+fn verdict_of(pass: bool) -> Verdict
+    ensures { result ≡ verdict_of pass }
 {
-    if pass {
-        to.push(b"pass");
-    } else {
-        to.push(b"drop");
-    }
+    if pass { Verdict::Pass } else { Verdict::Drop }
 }

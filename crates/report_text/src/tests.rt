@@ -1,6 +1,7 @@
 //! Each line as it stands in the output.
-use crate::{put_done, put_end, put_mark, put_one, put_run};
-use urpf_base::{Addr, Line};
+use crate::{put_check, put_done, put_end, put_mark, put_one, put_run};
+use std::test::Fail;
+use urpf_base::{Addr, IfaceId, Line, Verdict};
 
 #[test]
 fn a_run_opens_and_closes(rt: HostRuntime) {
@@ -57,4 +58,14 @@ fn a_check_passes_or_drops(rt: HostRuntime) {
         put_one(&Addr::V4(0xc633_6409), pass, 1, 2, 0, &mut line);
         assert_eq!(rt; line.bytes(), text);
     }
+}
+
+#[test]
+fn a_check_names_its_interface_and_publication(rt: HostRuntime) -> Result<(), Fail> {
+    let iface = IfaceId::new(63).ok_or("below 64")?;
+    let addr = Addr::V4(0xc633_6409);
+    let mut line = Line::new();
+    put_check(iface, &addr, Verdict::Drop, 12, &mut line);
+    assert_eq!(rt; line.bytes(), b"check 63 198.51.100.9 drop 12\n".as_slice());
+    Ok(())
 }

@@ -23,6 +23,7 @@ numbers_in width text = values_in (number_front width) text
 abbrev pub type_from : ℕ → Option SegmentType
 type_from octet = if octet == 1 then Some Set else if octet == 2 then Some Sequence else None
 
+-- the segment of this type that has these AS numbers
 abbrev pub segment_from : SegmentType → List ℕ → Segment
 segment_from Set numbers = as_set numbers
 segment_from Sequence numbers = as_sequence numbers

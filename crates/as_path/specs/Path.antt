@@ -15,6 +15,7 @@ abbrev pub type_of : Segment → ℕ
 type_of (as_set numbers) = 1
 type_of (as_sequence numbers) = 2
 
+-- the AS numbers of a segment, in the order of its octets
 abbrev pub numbers_of : Segment → List ℕ
 numbers_of (as_set numbers) = numbers
 numbers_of (as_sequence numbers) = numbers

@@ -9,7 +9,6 @@
 mod book;
 mod cutting;
 mod lines;
-mod numbers;
 mod reading;
 mod saying;
 mod words;

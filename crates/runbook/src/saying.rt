@@ -11,9 +11,8 @@ ghost use Rattle.runbook.specs.Lines.{words_in};
 ghost use Rattle.runbook.specs.Says.{IsJudged, Says, judged};
 
 use crate::lines::{BookKind, BookLine};
-use crate::numbers::read_number;
 use crate::words::{has_words, next_word, two_words};
-use ip_text::read_addr;
+use ip_text::{read_addr, read_number};
 use urpf_base::{Addr, IfaceId};
 
 /// The greatest number of a session or an interface.

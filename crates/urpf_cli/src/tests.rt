@@ -1,5 +1,10 @@
-//! What no clause says: worked streams with their lines, and that calls succeed where memory is ample.
-use crate::{FileSource, Object, OutSink, STREAM_OCTETS, Status, check_one, put_status};
+//! What no clause says: worked streams with their lines, worked runs with their texts, and that calls
+//! succeed where memory is ample.
+use crate::{
+    BOOK_OCTETS, FileSource, Object, OutSink, STREAM_OCTETS, Status, check_one, offline_stream,
+    put_status,
+};
+use runbook::BookKind;
 use std::alloc::Global;
 use std::fs;
 use std::process::Abort;
@@ -60,6 +65,41 @@ const WITHDRAW: [u8; 27] = [
     0x00, 0x1B, 0x02, 0x00, 0x04, 0x18, 0xC6, 0x33, 0x64, 0x00, 0x00,
 ];
 
+/// An UPDATE that announces 198.51.100.0/24 as a usual speaker does, with communities and an optional
+/// attribute that is not known here.
+const USUAL: [u8; 69] = [
+    0xFF, 0xFF, 0xFF, 0xFF, 0xFF, 0xFF, 0xFF, 0xFF, 0xFF, 0xFF, 0xFF, 0xFF, 0xFF, 0xFF, 0xFF, 0xFF,
+    0x00, 0x45, 0x02, 0x00, 0x00, 0x00, 0x2A, 0x40, 0x01, 0x01, 0x00, 0x40, 0x02, 0x06, 0x02, 0x01,
+    0x00, 0x00, 0xFB, 0xF5, 0x40, 0x03, 0x04, 0xC0, 0x00, 0x02, 0x01, 0xC0, 0x08, 0x04, 0xFB, 0xF5,
+    0x00, 0x64, 0xC0, 0x20, 0x0C, 0x00, 0x00, 0xFB, 0xF5, 0x00, 0x00, 0x00, 0x01, 0x00, 0x00, 0x00,
+    0x02, 0x18, 0xC6, 0x33, 0x64,
+];
+
+/// End-of-RIB of IPv4 (RFC 4724, section 2).
+const END_OF_RIB: [u8; 23] = [
+    0xFF, 0xFF, 0xFF, 0xFF, 0xFF, 0xFF, 0xFF, 0xFF, 0xFF, 0xFF, 0xFF, 0xFF, 0xFF, 0xFF, 0xFF, 0xFF,
+    0x00, 0x17, 0x02, 0x00, 0x00, 0x00, 0x00,
+];
+
+/// End-of-RIB of IPv6 (RFC 4724, section 2).
+const END_OF_RIB_IPV6: [u8; 29] = [
+    0xFF, 0xFF, 0xFF, 0xFF, 0xFF, 0xFF, 0xFF, 0xFF, 0xFF, 0xFF, 0xFF, 0xFF, 0xFF, 0xFF, 0xFF, 0xFF,
+    0x00, 0x1D, 0x02, 0x00, 0x00, 0x00, 0x06, 0x80, 0x0F, 0x03, 0x00, 0x02, 0x01,
+];
+
+/// An UPDATE without an ORIGIN, whose prefix has a length of 33.
+const NO_ORIGIN: [u8; 40] = [
+    0xFF, 0xFF, 0xFF, 0xFF, 0xFF, 0xFF, 0xFF, 0xFF, 0xFF, 0xFF, 0xFF, 0xFF, 0xFF, 0xFF, 0xFF, 0xFF,
+    0x00, 0x28, 0x02, 0x00, 0x00, 0x00, 0x10, 0x40, 0x02, 0x06, 0x02, 0x01, 0x00, 0x00, 0xFB, 0xF5,
+    0x40, 0x03, 0x04, 0xC0, 0x00, 0x02, 0x01, 0x21,
+];
+
+/// A NOTIFICATION: Cease (RFC 4271, section 4.5).
+const NOTIFICATION: [u8; 21] = [
+    0xFF, 0xFF, 0xFF, 0xFF, 0xFF, 0xFF, 0xFF, 0xFF, 0xFF, 0xFF, 0xFF, 0xFF, 0xFF, 0xFF, 0xFF, 0xFF,
+    0x00, 0x15, 0x03, 0x06, 0x00,
+];
+
 /// The status of `check session SOURCE` over the stream, and what it writes.
 fn check(alloc: Global, stream: &[u8], source: &str) -> Result<(Status, Vec<u8>), Fail> {
     faulty(alloc, stream, source, &[], &[])
@@ -103,7 +143,8 @@ fn joined(alloc: Global, messages: &[&[u8]]) -> Result<Vec<u8>, Fail> {
 fn a_source_is_judged_by_the_prefixes_that_are_left(rt: HostRuntime) -> Result<(), Fail> {
     let alloc = rt.alloc();
     let then_withdrawn = joined(alloc, &[&ANNOUNCE, &WITHDRAW])?;
-    let cases: [(&[u8], &str, &str); 11] = [
+    let usual = joined(alloc, &[&USUAL, &END_OF_RIB, &END_OF_RIB_IPV6])?;
+    let cases: [(&[u8], &str, &str); 14] = [
         (
             &ANNOUNCE,
             "198.51.100.9",
@@ -159,6 +200,21 @@ fn a_source_is_judged_by_the_prefixes_that_are_left(rt: HostRuntime) -> Result<(
             "198.51.100.9",
             "check 198.51.100.9 drop messages 0 prefixes 0 rest 18\n",
         ),
+        (
+            &ANNOUNCE_IPV6,
+            "2001:db8::1",
+            "check 2001:0db8:0000:0000:0000:0000:0000:0001 pass messages 1 prefixes 1 rest 0\n",
+        ),
+        (
+            &ANNOUNCE,
+            "2001:db8::1",
+            "check 2001:0db8:0000:0000:0000:0000:0000:0001 drop messages 1 prefixes 1 rest 0\n",
+        ),
+        (
+            usual.as_slice(),
+            "198.51.100.9",
+            "check 198.51.100.9 pass messages 3 prefixes 1 rest 0\n",
+        ),
     ];
     for (stream, source, line) in cases {
         let (status, text) = check(alloc, stream, source)?;
@@ -185,8 +241,9 @@ fn the_first_message_that_cannot_be_read_is_named(rt: HostRuntime) -> Result<(),
     )?;
     let broken_marker = joined(alloc, &[&[0xFE], &KEEPALIVE[1..]])?;
     let open_second = joined(alloc, &[&KEEPALIVE, &OPEN])?;
+    let bad_update_second = joined(alloc, &[&ANNOUNCE, &NO_ORIGIN])?;
     let fault_third = joined(alloc, &[&KEEPALIVE, &ANNOUNCE, of_18.as_slice()])?;
-    let cases: [(&str, &[u8], Status); 8] = [
+    let cases: [(&str, &[u8], Status); 9] = [
         ("a length of 18", of_18.as_slice(), length),
         ("a length of 4097", of_4097.as_slice(), length),
         (
@@ -218,9 +275,18 @@ fn the_first_message_that_cannot_be_read_is_named(rt: HostRuntime) -> Result<(),
             Status::Unsupported { place: 2 },
         ),
         (
-            "an IPv6 route",
-            &ANNOUNCE_IPV6,
+            "a NOTIFICATION",
+            &NOTIFICATION,
             Status::Unsupported { place: 1 },
+        ),
+        (
+            "an UPDATE without an ORIGIN",
+            bad_update_second.as_slice(),
+            Status::BadSession {
+                code: 3,
+                sub: 3,
+                place: 2,
+            },
         ),
         (
             "a fault in the third message",
@@ -265,6 +331,147 @@ fn a_fault_of_the_outside_is_told(rt: HostRuntime) -> Result<(), Fail> {
     assert_eq!(rt; text.len(), 0);
     let (status, _) = check(alloc, &ANNOUNCE, "198.51.100.09")?;
     assert_eq!(rt; status, Status::Usage);
+    Ok(())
+}
+
+/// The status of `offline book stream` over these, and what it writes. These writes fail, by their
+/// numbers from 1.
+fn offline(
+    alloc: Global,
+    book: &str,
+    stream: &[u8],
+    writes: &[u64],
+) -> Result<(Status, Vec<u8>), Fail> {
+    let words = offline_words(alloc)?;
+    let mut book = MemSource::new(Vec::from_slice(alloc, book.as_bytes())?, Vec::new(alloc));
+    let mut stream = MemSource::new(Vec::from_slice(alloc, stream)?, Vec::new(alloc));
+    let mut out = MemSink::new(
+        Vec::with_capacity(alloc, 8192)?,
+        Vec::from_slice(alloc, writes)?,
+    );
+    let status = offline_stream(alloc, &words, &mut book, &mut stream, &mut out);
+    Ok((status, Vec::from_slice(alloc, out.held())?))
+}
+
+/// The words of a run.
+fn offline_words(alloc: Global) -> Result<Vec<String>, Fail> {
+    Ok(vec![in alloc;
+        String::from_str(alloc, "offline")?,
+        String::from_str(alloc, "book")?,
+        String::from_str(alloc, "stream")?,
+    ]?)
+}
+
+/// Takes all, publishes, and checks a source that is covered and one that is not.
+const ALL_AT_ONCE: &str = "pull 0 all\npublish\ncheck 0 198.51.100.9\ncheck 0 198.51.101.0\n";
+
+#[test]
+fn a_run_writes_its_whole_text(rt: HostRuntime) -> Result<(), Fail> {
+    let alloc = rt.alloc();
+    let (status, text) = offline(alloc, ALL_AT_ONCE, &ANNOUNCE, &[])?;
+    assert_eq!(rt; status, Status::Done);
+    let wanted = "run interfaces 1 sessions 1 pairs 0 skipped 0\n\
+        publish 0 edits 0 cells 0 items 0\n\
+        end 0 items 1 rest 0\n\
+        publish 1 edits 0 cells 1 items 1\n\
+        check 0 198.51.100.9 pass 1\n\
+        check 0 198.51.101.0 drop 1\n\
+        done publications 1 packets 0\n";
+    assert_eq!(rt; text.as_slice(), wanted.as_bytes());
+    Ok(())
+}
+
+#[test]
+fn a_source_is_judged_by_the_last_publication(rt: HostRuntime) -> Result<(), Fail> {
+    let alloc = rt.alloc();
+    let stream = joined(alloc, &[&ANNOUNCE, &WITHDRAW])?;
+    let book = "pull 0 1\npublish\npull 0 1\ncheck 0 198.51.100.9\npublish\n\
+        check 0 198.51.100.9\n";
+    let (status, text) = offline(alloc, book, &stream, &[])?;
+    assert_eq!(rt; status, Status::Done);
+    let wanted = "run interfaces 1 sessions 1 pairs 0 skipped 0\n\
+        publish 0 edits 0 cells 0 items 0\n\
+        publish 1 edits 0 cells 1 items 1\n\
+        check 0 198.51.100.9 pass 1\n\
+        publish 2 edits 0 cells 1 items 2\n\
+        check 0 198.51.100.9 drop 2\n\
+        done publications 2 packets 0\n";
+    assert_eq!(rt; text.as_slice(), wanted.as_bytes());
+    Ok(())
+}
+
+#[test]
+fn a_run_that_is_refused_writes_nothing(rt: HostRuntime) -> Result<(), Fail> {
+    let alloc = rt.alloc();
+    let bad = joined(alloc, &[&ANNOUNCE, &NO_ORIGIN])?;
+    let cases: [(&str, &[u8], Status); 5] = [
+        (
+            "pull 0 all\npublish now\npull 1 all\n",
+            bad.as_slice(),
+            Status::BadBook {
+                line: 2,
+                kind: BookKind::Syntax,
+            },
+        ),
+        (
+            "pull 1 all\n",
+            &ANNOUNCE,
+            Status::BadBook {
+                line: 1,
+                kind: BookKind::Session,
+            },
+        ),
+        (
+            "publish\n\ncheck 1 198.51.100.9\n",
+            &ANNOUNCE,
+            Status::BadBook {
+                line: 3,
+                kind: BookKind::Iface,
+            },
+        ),
+        (
+            ALL_AT_ONCE,
+            bad.as_slice(),
+            Status::BadSession {
+                code: 3,
+                sub: 3,
+                place: 2,
+            },
+        ),
+        (ALL_AT_ONCE, &OPEN, Status::Unsupported { place: 1 }),
+    ];
+    for (book, stream, wanted) in cases {
+        let (status, text) = offline(alloc, book, stream, &[])?;
+        assert_eq!(rt; status, wanted, "of {book}");
+        assert_eq!(rt; text.len(), 0, "of {book}");
+    }
+    Ok(())
+}
+
+#[test]
+fn a_sink_that_fails_in_a_run_has_a_front_of_the_text(rt: HostRuntime) -> Result<(), Fail> {
+    let alloc = rt.alloc();
+    let (status, text) = offline(alloc, ALL_AT_ONCE, &ANNOUNCE, &[4])?;
+    assert_eq!(rt; status, Status::WriteFault);
+    let wanted = "run interfaces 1 sessions 1 pairs 0 skipped 0\n\
+        publish 0 edits 0 cells 0 items 0\n\
+        end 0 items 1 rest 0\n";
+    assert_eq!(rt; text.as_slice(), wanted.as_bytes());
+    Ok(())
+}
+
+#[test]
+fn a_book_or_a_stream_past_its_limit_is_too_long(rt: HostRuntime) -> Result<(), Fail> {
+    let alloc = rt.alloc();
+    let words = offline_words(alloc)?;
+    let mut book = SureSource::new(vec![in alloc; 0; BOOK_OCTETS + 1]?);
+    let mut stream = SureSource::new(Vec::new(alloc));
+    let status = offline_stream(alloc, &words, &mut book, &mut stream, &mut SureSink::new());
+    assert_eq!(rt; status, Status::TooLong(Object::Book));
+    let mut book = SureSource::new(Vec::new(alloc));
+    let mut stream = SureSource::new(vec![in alloc; 0; STREAM_OCTETS + 1]?);
+    let status = offline_stream(alloc, &words, &mut book, &mut stream, &mut SureSink::new());
+    assert_eq!(rt; status, Status::TooLong(Object::Stream));
     Ok(())
 }
 

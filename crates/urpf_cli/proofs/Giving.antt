@@ -49,13 +49,16 @@ changed_from : (us vs : List RouteUpdate) (old new : Routes) (cells : ℕ) → H
 changed_from us vs old new cells held_old held_new difference = record {
   changed = difference.changed;
   distinct = difference.distinct;
-  each = λ p.
-    ( λ has. elim ((difference.each p).0 has) [
-        inl came ↦ inl (gone_never us old held_old p came.0, there_reaches vs new held_new p came.1)
-        | inr went ↦ inr (there_reaches us old held_old p went.0, gone_never vs new held_new p went.1) ]
-    , λ differs. (difference.each p).1 (elim differs [
-        inl came ↦ inl (never_gone us old held_old p came.0, reaches_there vs new held_new p came.1)
-        | inr went ↦ inr (reaches_there us old held_old p went.0, never_gone vs new held_new p went.1) ]));
+  each = λ p. (
+    λ has. elim ((difference.each p).0 has) [
+      | inl came ↦ inl (gone_never us old held_old p came.0, there_reaches vs new held_new p came.1)
+      | inr went ↦ inr (there_reaches us old held_old p went.0, gone_never vs new held_new p went.1)
+    ],
+    λ differs. (difference.each p).1 (elim differs [
+      | inl came ↦ inl (never_gone us old held_old p came.0, reaches_there vs new held_new p came.1)
+      | inr went ↦ inr (reaches_there us old held_old p went.0, never_gone vs new held_new p went.1)
+    ]),
+  );
   counted = difference.counted;
 }
 

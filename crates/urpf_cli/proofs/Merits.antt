@@ -40,9 +40,9 @@ no_book text line kind r is only has = elim (only has.rows has.book) [ inl ok �
 
 same_fault : (text : List ℕ) (line other : ℕ) (kind found : BookKind) (r : Reading) → r ≡ Err (read.Bad (refused line kind)) → OnlyFault text r → IsFirstFault text other found → BadBook line kind ≡ BadBook other found
 same_fault text line other kind found r is only fault = elim (only other found fault) [
-    | inl bad ↦ let same : refused line kind ≡ refused other found = cc in ap (λ f. BadBook f.line f.kind) same
-    | inr memory ↦ cc
-  ]
+  | inl bad ↦ let same : refused line kind ≡ refused other found = cc in ap (λ f. BadBook f.line f.kind) same
+  | inr memory ↦ cc
+]
 
 bad_merit : (words : List (List ℕ)) (text stream : List ℕ) (line : ℕ) (kind : BookKind) (r : Reading) (s : Status) → AreOfflineWords words → length text ≤ BOOK_OCTETS → r ≡ Err (read.Bad (refused line kind)) → OnlyBook text r → OnlyFault text r → Merits words text stream s → BadBook line kind ≡ s
 bad_merit words text stream line kind r Usage fit short is only_book only_fault merit = absurd (merit fit)

@@ -58,25 +58,25 @@ gave_more inputs rows k row old mid new is before line = rw (line_more rows k ro
 -- what the lines before one that stopped wrote, and a front of what it would
 pub gave_stop : (inputs : Inputs) (rows : List (ℕ × BookLine)) (k : ℕ) (row : ℕ × BookLine) (old mid new : Option (List ℕ)) → slice_get rows k ≡ Some row → Gave inputs (take k (lines_in rows)) old mid → GaveLineFront inputs (position_after (length inputs.said) (take k (lines_in rows)) opening) row.1 mid new → GaveFront inputs (lines_in rows) old new
 gave_stop inputs rows k row old mid new is before stop = elim stop.front [
-    | inl none ↦ record {
-        count = k;
-        texts = before.texts;
-        given = before.given;
-        octets = concat before.texts ++ stop.octets;
-        more = [];
-        parts = rw none (simp (append-nil (concat before.texts)));
-        appended = Appends-append old mid new (concat before.texts) stop.octets before.appended stop.appended;
-      }
-    | inr some ↦ record {
-        count = k + 1;
-        texts = before.texts ++ (stop.octets ++ some.0) ∷ [];
-        given = rw (line_more rows k row is) (give_more inputs opening (take k (lines_in rows)) before.texts row.1 (stop.octets ++ some.0) before.given some.1);
-        octets = concat before.texts ++ stop.octets;
-        more = some.0;
-        parts = concat_more before.texts (stop.octets ++ some.0) ∙ sym (append_assoc (concat before.texts) stop.octets some.0);
-        appended = Appends-append old mid new (concat before.texts) stop.octets before.appended stop.appended;
-      }
-  ]
+  | inl none ↦ record {
+    count = k;
+    texts = before.texts;
+    given = before.given;
+    octets = concat before.texts ++ stop.octets;
+    more = [];
+    parts = rw none (simp (append-nil (concat before.texts)));
+    appended = Appends-append old mid new (concat before.texts) stop.octets before.appended stop.appended;
+  }
+  | inr some ↦ record {
+    count = k + 1;
+    texts = before.texts ++ (stop.octets ++ some.0) ∷ [];
+    given = rw (line_more rows k row is) (give_more inputs opening (take k (lines_in rows)) before.texts row.1 (stop.octets ++ some.0) before.given some.1);
+    octets = concat before.texts ++ stop.octets;
+    more = some.0;
+    parts = concat_more before.texts (stop.octets ++ some.0) ∙ sym (append_assoc (concat before.texts) stop.octets some.0);
+    appended = Appends-append old mid new (concat before.texts) stop.octets before.appended stop.appended;
+  }
+]
 
 Appends-nil : (held : Option (List ℕ)) → Appends held held []
 Appends-nil None = tt

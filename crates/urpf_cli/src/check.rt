@@ -9,9 +9,7 @@ ghost use Rattle.urpf_cli.specs.declared.status.Status.{Status};
 ghost use Rattle.urpf_cli.specs.CheckOne.{Deserves, FitNoForm, IsCheckLine, IsQuiet, IsRefused, Within, status_of_fault, WritesFront, WritesLine};
 ghost use Rattle.urpf_cli.specs.Session.{IsBadAt, IsStrangeAt, updates_of};
 
-use crate::session::{
-    MESSAGE_HEADER_ERROR, SessionFault, UPDATE_MESSAGE_ERROR, read_session,
-};
+use crate::session::{MESSAGE_HEADER_ERROR, SessionFault, UPDATE_MESSAGE_ERROR, read_session};
 use crate::status::{Object, Status};
 use crate::words::check_source;
 use adj_rib::AdjRib;

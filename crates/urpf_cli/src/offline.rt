@@ -56,7 +56,7 @@ pub fn offline_stream<S: Source, K: Sink>(
     // Where nothing fails, the answer is the one that the words, the text and the stream merit.
     ensures exact { (status : Status)
         → IsSomeAnd (S.left book.old) (λ text. IsSomeAnd (S.left stream.old)
-            (λ octets. Merits (map string_bytes words.now) text octets status))
+        (λ octets. Merits (map string_bytes words.now) text octets status))
         → ¬ Rose (S.faults book.old) (S.faults book.new)
         → ¬ Rose (S.faults stream.old) (S.faults stream.new)
         → ¬ Rose (K.faults out.old) (K.faults out.new)
@@ -65,13 +65,13 @@ pub fn offline_stream<S: Source, K: Sink>(
     // What the sink took.
     ensures done { result ≡ Status.Done
         → IfSome (S.left book.old) (λ text. IfSome (S.left stream.old)
-            (λ octets. WritesRun text octets (K.held out.old) (K.held out.new))) }
+        (λ octets. WritesRun text octets (K.held out.old) (K.held out.new))) }
     ensures cut_short { result ≡ Status.WriteFault
         → IfSome (S.left book.old) (λ text. IfSome (S.left stream.old)
-            (λ octets. WritesRunFront text octets (K.held out.old) (K.held out.new))) }
+        (λ octets. WritesRunFront text octets (K.held out.old) (K.held out.new))) }
     ensures memory { result ≡ Status.OutOfMemory → (out.new ≡ out.old)
         ⊎ IfSome (S.left book.old) (λ text. IfSome (S.left stream.old)
-            (λ octets. WritesRunFront text octets (K.held out.old) (K.held out.new))) }
+        (λ octets. WritesRunFront text octets (K.held out.old) (K.held out.new))) }
     ensures quiet { IsQuiet result → (result ≡ Status.OutOfMemory → ⊥) → out.new ≡ out.old }
 {
     if !are_offline(words) {

@@ -85,11 +85,7 @@ pub fn read_session<'a>(alloc: Global, stream: &'a [u8]) -> Result<Session<'a>, 
 }
 
 /// What the message of this kind and body, the one at this place, says.
-fn read_item(
-    kind: MsgKind,
-    body: &[u8],
-    place: u64,
-) -> Result<Option<UpdateView<'_>>, SessionFault>
+fn read_item(kind: MsgKind, body: &[u8], place: u64) -> Result<Option<UpdateView<'_>>, SessionFault>
     requires { kind ≡ MsgKind.Update → 4 ≤ length body.now }
     ensures found { IfOk result (SaysBy kind body.now) }
     ensures header { (sub at : ℕ) → result ≡ Err (SessionFault.Header sub at) → ⊥ }

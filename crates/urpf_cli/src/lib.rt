@@ -3,6 +3,7 @@
 
 mod adapters;
 mod check;
+mod laws;
 mod offline;
 mod run;
 mod session;
@@ -14,6 +15,7 @@ mod words;
 
 pub use adapters::{FileSource, OutSink};
 pub use check::{STREAM_OCTETS, check_one};
+pub use laws::one_run_text;
 pub use offline::{BOOK_OCTETS, offline_stream};
 pub use status::{Object, Status};
 pub use status_text::{exit_code, put_status};

@@ -19,7 +19,7 @@ mod values;
 mod walking;
 
 pub use attrs::{AttrFault, Attrs};
-pub use laws::one_outcome;
+pub use laws::{assigned_numbers, one_outcome};
 pub use walking::walk;
 
 #[cfg(test)]

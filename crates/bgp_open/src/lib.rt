@@ -16,7 +16,7 @@ pub use faults::{
     BAD_BGP_IDENTIFIER, BAD_PEER_AS, OpenFault, UNACCEPTABLE_HOLD_TIME, UNSPECIFIC,
     UNSUPPORTED_OPTIONAL_PARAMETER, UNSUPPORTED_VERSION_NUMBER,
 };
-pub use laws::one_list_of_fields;
+pub use laws::{assigned_numbers, one_list_of_fields};
 pub use notification::read_notification;
 pub use opening::{OpenSeen, read_open};
 

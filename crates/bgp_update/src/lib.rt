@@ -16,7 +16,7 @@ mod routes;
 mod subcodes;
 mod view;
 
-pub use laws::one_outcome;
+pub use laws::{assigned_numbers, one_outcome};
 pub use reading::{UpdateFault, read_update};
 pub use view::{Announced, UpdateView, Withdrawn};
 

@@ -74,8 +74,8 @@ same_length (x ∷ xs) ys one two to from =
     let rest = found.front ++ found.back in
     let distinct = distinct_others found.front found.back x (subst AreDistinct found.parts two) in
     let shorter = same_length xs rest one.1 distinct.0
-        (λ z has. but (middle found.front found.back x z (subst (λ vs. Has vs z) found.parts (to z (inr has)))) (not_it xs x z one.0 has))
-        (λ z has. but (from z (subst (λ vs. Has vs z) (sym found.parts) (other found.front found.back x z has))) (not_it rest x z distinct.1 has)) in
+    (λ z has. but (middle found.front found.back x z (subst (λ vs. Has vs z) found.parts (to z (inr has)))) (not_it xs x z one.0 has))
+    (λ z has. but (from z (subst (λ vs. Has vs z) (sym found.parts) (other found.front found.back x z has))) (not_it rest x z distinct.1 has)) in
     ap (λ n. suc n) shorter ∙ sym (ap length found.parts ∙ length_around found.front found.back x)
 
 -- one number of prefixes came or went

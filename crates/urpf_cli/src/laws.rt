@@ -1,7 +1,19 @@
-//! A law on the text of a run, as the contract of a function without code.
+//! Laws on the text of a run, on limits and on assigned numbers, as contracts of functions without
+//! code.
 ghost use Rattle.std.specs.Prelude.{◌≡◌, ℕ, List};
 ghost use Rattle.runbook.specs.declared.lines.BookLine.{BookLine};
 ghost use Rattle.urpf_cli.specs.RunText.{Inputs, IsRunText};
+
+use crate::check::STREAM_OCTETS;
+use crate::offline::BOOK_OCTETS;
+use crate::session::{MESSAGE_HEADER_ERROR, UPDATE_MESSAGE_ERROR};
+
+/// The error codes have the numbers that the standard assigns (RFC 4271, section 4.5), and the
+/// limits are 16 MiB and 1 MiB. Contracts and definitions cite them by name.
+pub fn assigned_numbers()
+    ensures codes { (MESSAGE_HEADER_ERROR ≡ 1) × (UPDATE_MESSAGE_ERROR ≡ 3) }
+    ensures limits { (STREAM_OCTETS ≡ 16777216) × (BOOK_OCTETS ≡ 1048576) }
+{}
 
 /// What the session says and the lines of the runbook have one text.
 pub fn one_run_text()

@@ -15,7 +15,7 @@ mod words;
 
 pub use adapters::{FileSource, OutSink};
 pub use check::{STREAM_OCTETS, check_one};
-pub use laws::one_run_text;
+pub use laws::{assigned_numbers, one_run_text};
 pub use offline::{BOOK_OCTETS, offline_stream};
 pub use status::{Object, Status};
 pub use status_text::{exit_code, put_status};

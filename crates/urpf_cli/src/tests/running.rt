@@ -147,3 +147,24 @@ fn a_book_or_a_stream_past_its_limit_is_too_long(rt: HostRuntime) -> Result<(), 
     assert_eq!(rt; status, Status::TooLong(Object::Stream));
     Ok(())
 }
+
+#[test]
+fn a_failed_read_of_the_book_or_the_stream_is_told(rt: HostRuntime) -> Result<(), Fail> {
+    let alloc = rt.alloc();
+    let words = offline_words(alloc)?;
+    let cases: [(&[u64], &[u64], Object); 2] = [
+        (&[1], &[1], Object::Book),
+        (&[], &[1], Object::Stream),
+    ];
+    for (book_fails, stream_fails, object) in cases {
+        let mut book = MemSource::new(Vec::new(alloc), Vec::from_slice(alloc, book_fails)?);
+        let mut stream = MemSource::new(Vec::new(alloc), Vec::from_slice(alloc, stream_fails)?);
+        let status = offline_stream(alloc, &words, &mut book, &mut stream, &mut SureSink::new());
+        assert_eq!(rt; status, Status::ReadFault(object));
+    }
+    let mut book = MemSource::new(Vec::new(alloc), Vec::new(alloc));
+    let mut stream = MemSource::new(Vec::new(alloc), Vec::new(alloc));
+    let status = offline_stream(alloc, &[], &mut book, &mut stream, &mut SureSink::new());
+    assert_eq!(rt; status, Status::Usage);
+    Ok(())
+}

@@ -1,6 +1,6 @@
 -- The prefixes of one table that another lacks, and walks that count them or copy a table.
 use Rattle.std.proofs.Common.{◌≡◌, ◌⊎◌, ℕ, ◌+◌, Bool, true, false, cond, List, [], ◌∷◌, ◌++◌, length, map, Option, Some, None, inl, inr, refl, sym, ap, subst, ◌∙◌, length-append, arith}
-use Rattle.std.specs.Prelude.{◌↔◌, IsSome, IsNone, is_none, is_some}
+use Rattle.std.specs.Prelude.{IsSome, IsNone, is_none}
 use Rattle.std.specs.List.{filter}
 use Rattle.std.proofs.lemmas.List.{length-map}
 use Rattle.urpf_base.specs.Address.{Block}

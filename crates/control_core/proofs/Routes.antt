@@ -1,9 +1,7 @@
 -- A table of routes after one more UPDATE.
-use Rattle.std.proofs.Common.{◌≡◌, ◌⊎◌, ℕ, List, [], ◌∷◌, ◌++◌, Option, Some, None, inl, inr, sym, ap, subst, ◌∙◌, refl, unwrap_or}
-use Rattle.std.specs.Prelude.{◌↔◌}
+use Rattle.std.proofs.Common.{◌≡◌, ℕ, List, [], ◌∷◌, ◌++◌, Option, Some, inl, inr, sym, ap, subst, ◌∙◌, unwrap_or}
 use Rattle.urpf_base.specs.Address.{Block}
-use Rattle.urpf_base.specs.Lists.{Has}
-use Rattle.urpf_base.specs.RouteUpdates.{RouteUpdate, IsSilent, HasRoute}
+use Rattle.urpf_base.specs.RouteUpdates.{RouteUpdate, HasRoute}
 use Rattle.urpf_base.proofs.RouteUpdates.{HasRoute-push, HasRoute-announced, HasRoute-kept}
 use Rattle.urpf_base.proofs.Membership.{has_or_not}
 use Rattle.adj_rib.specs.Routes.{Routes, routes_at}

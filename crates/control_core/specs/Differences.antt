@@ -1,5 +1,5 @@
 -- How many prefixes came or went between two tables of routes. Our own choice.
-use Rattle.std.specs.Prelude.{◌≡◌, ◌⊎◌, ℕ, List, length, Option, IsSome, IsNone, is_none, Bool, ◌↔◌}
+use Rattle.std.specs.Prelude.{◌≡◌, ◌⊎◌, ℕ, List, length, IsSome, IsNone, is_none, Bool, ◌↔◌}
 use Rattle.std.specs.List.{filter}
 use Rattle.urpf_base.specs.Address.{Block}
 use Rattle.urpf_base.specs.Lists.{Has, AreDistinct}

@@ -8,7 +8,7 @@ use Rattle.urpf_cli.specs.Session.{Says, SaysBy, SayAll, FailsBy, IsForeign, IsR
 use Rattle.bgp_wire.specs.Header.{type_field}
 use Rattle.bgp_wire.specs.States.{kind_of}
 use Rattle.bgp_wire.specs.declared.kinds.MsgKind.{MsgKind}
-use Rattle.bgp_wire.specs.declared.kinds.MsgKind.TheVariants.{Open, Update, Notification, Keepalive}
+use Rattle.bgp_wire.specs.declared.kinds.MsgKind.TheVariants.{Update}
 use Rattle.as_path.specs.declared.widths.Width.TheVariants.{Four}
 use Rattle.bgp_update.proofs.OutcomeLaws.{never_both, fault_once}
 use Rattle.std.specs.Io.KnownBytes.{Appends}

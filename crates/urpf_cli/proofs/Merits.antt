@@ -1,5 +1,5 @@
 -- Words, a runbook and a stream merit one status.
-use Rattle.std.proofs.Common.{◌≡◌, ◌⊎◌, ◌<◌, ◌≤◌, ℕ, List, length, Option, Some, None, Result, Ok, Err, IfSome, IsSomeAnd, refl, inl, inr, ap, sym, subst, ◌∙◌, arith}
+use Rattle.std.proofs.Common.{◌≡◌, ◌⊎◌, ◌≤◌, ℕ, List, length, Option, Some, None, Result, Ok, Err, IfSome, IsSomeAnd, refl, inl, inr, ap, sym, subst, arith}
 use Rattle.runbook.specs.declared.lines.BookLine.{BookLine}
 use Rattle.runbook.specs.declared.lines.BookKind.{BookKind}
 use Rattle.runbook.specs.declared.book.BookFault.{BookFault}

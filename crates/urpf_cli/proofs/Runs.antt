@@ -1,5 +1,5 @@
 -- What a run wrote, out of what its lines wrote.
-use Rattle.std.proofs.Common.{◌≡◌, ◌⊎◌, ℕ, ◌+◌, ◌<◌, ◌≤◌, List, [], ◌∷◌, ◌++◌, length, take, drop, map, Option, Some, None, Result, Ok, Err, OnErr, OnOk, get_or, slice_get, unwrap_or, refl, inl, inr, ap, sym, subst, ◌∙◌, arith, append_assoc}
+use Rattle.std.proofs.Common.{◌≡◌, ℕ, ◌+◌, ◌≤◌, List, [], ◌∷◌, ◌++◌, length, take, drop, Option, Some, None, Result, Ok, Err, OnErr, OnOk, get_or, slice_get, unwrap_or, refl, inl, inr, ap, sym, ◌∙◌, arith, append_assoc}
 use Rattle.std.specs.List.{concat}
 use Rattle.std.specs.Io.KnownBytes.{Appends}
 use Rattle.std.proofs.lemmas.List.{take-append-drop, append-nil, map-append, take-map, take_more, take_all}
@@ -9,8 +9,8 @@ use Rattle.urpf_base.proofs.Growth.{Appends-append}
 use Rattle.report_text.specs.Lines.{run_line, publish_line, done_line}
 use Rattle.runbook.specs.declared.lines.BookLine.{BookLine}
 use Rattle.urpf_cli.specs.declared.run.Run.{Run}
-use Rattle.urpf_cli.specs.RunText.{Inputs, Position, opening, next_position, position_after, Gives, GiveAll, IsRunText, head_text}
-use Rattle.urpf_cli.specs.Running.{IsRunFront, Stands, lines_in, GaveLine, GaveLineFront, Gave, GaveFront, WroteRun, WroteFront}
+use Rattle.urpf_cli.specs.RunText.{Inputs, Position, opening, next_position, position_after, Gives, GiveAll, head_text}
+use Rattle.urpf_cli.specs.Running.{Stands, lines_in, GaveLine, GaveLineFront, Gave, GaveFront, WroteRun, WroteFront}
 
 -- a write of the text of a line that failed took a front of it
 pub line_front : {E : Type 0} (r : Result (Unit {0}) E) (inputs : Inputs) (at : Position) (line : BookLine) (text : List ℕ) (old new : Option (List ℕ)) → Gives inputs at line text → OnErr r ((n : ℕ) × (n ≤ length text) × Appends old new (take n text)) → OnErr r (GaveLineFront inputs at line old new)

@@ -1,6 +1,5 @@
 -- What `offline` answers and writes. Our own choice, over the definitions of the protocol and of the run.
 use Rattle.std.specs.Prelude.{◌≡◌, ℕ, ◌<◌, ◌≤◌, List, [], ◌∷◌, length, Option, codes}
-use Rattle.std.specs.Io.KnownBytes.{Appends}
 use Rattle.runbook.specs.declared.lines.BookLine.{BookLine}
 use Rattle.runbook.specs.Book.{IsBook, IsFirstFault}
 use Rattle.urpf_cli.specs.CheckOne.{Fate}

@@ -1,4 +1,4 @@
-use Rattle.std.proofs.Common.{Some, None}
+use Rattle.std.proofs.Common.{Some}
 use Rattle.control_core.proofs.Walks.{IsUnderWay}
 use Rattle.control_core.proofs.table.announce.Given as goal
 

@@ -1,4 +1,4 @@
-use Rattle.std.proofs.Common.{map, arith, inl, inr, refl, ◌∙◌, ap, Err, Ok}
+use Rattle.std.proofs.Common.{map, arith, inl, inr, refl, ◌∙◌, ap, Err}
 use Rattle.std.specs.Prelude.{string_bytes}
 use Rattle.urpf_cli.specs.CheckOne.{status_of_fault}
 use Rattle.urpf_cli.specs.declared.status.Object.TheVariants.{Stream}

@@ -1,4 +1,4 @@
-use Rattle.std.proofs.Common.{◌+◌, arith, length, take}
+use Rattle.std.proofs.Common.{arith, length, take}
 use Rattle.urpf_cli.specs.RunText.{opening, position_after}
 use Rattle.urpf_cli.specs.Running.{inputs_of, lines_in}
 use Rattle.urpf_cli.proofs.Runs.{gave_more, gave_stop, stands_more}

@@ -1,4 +1,4 @@
-use Rattle.std.proofs.Common.{◌≡◌, ◌-◌, ◌≤◌, length, take}
+use Rattle.std.proofs.Common.{◌-◌, ◌≤◌, length, take}
 use Rattle.urpf_cli.specs.RunText.{opening, position_after}
 use Rattle.urpf_cli.specs.Running.{Gave, Stands, inputs_of, lines_in}
 use Rattle.urpf_cli.proofs.whole.take_lines.Given as goal

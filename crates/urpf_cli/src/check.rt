@@ -1,5 +1,6 @@
 //! `check SESSION SOURCE`: whether the routes that a recorded session leaves admit a source.
-ghost use Rattle.std.specs.Prelude.{None, ◌≡◌, ◌↔◌, ◌<◌, ◌≤◌, ◌⊎◌, [], ℕ, length, take, IfErr, IfSome, IsSomeAnd, OnOk, map, string_bytes};
+ghost use Rattle.std.specs.Prelude.{None, ◌≡◌, ◌↔◌, ◌<◌, ◌≤◌, ◌⊎◌, [], ℕ, length, take};
+ghost use Rattle.std.specs.Prelude.{IfErr, IfSome, IsSomeAnd, OnOk, map, string_bytes};
 ghost use Rattle.std.specs.Io.KnownBytes.{Appends};
 ghost use Rattle.urpf_base.specs.Address.{Block};
 ghost use Rattle.urpf_base.specs.Faults.{Rose};

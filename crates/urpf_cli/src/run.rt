@@ -1,6 +1,7 @@
 //! How far a run has come, and its steps: items are taken, a publication is made, a line of output
 //! is offered to the sink.
-ghost use Rattle.std.specs.Prelude.{◌≡◌, ◌⊎◌, ◌<◌, ◌+◌, ◌-◌, ◌^◌, ◌≤◌, ◌++◌, ◌∷◌, ◌&&◌, ◌||◌, not, [], ℕ, List, Option, length, take, Ok, Err, Some, None, IfOk, IfErr, OnErr, OnOk};
+ghost use Rattle.std.specs.Prelude.{◌≡◌, ◌<◌, ◌+◌, ◌-◌, ◌^◌, ◌≤◌, ◌++◌, ◌∷◌, ◌&&◌, ◌||◌, not};
+ghost use Rattle.std.specs.Prelude.{[], ℕ, List, Option, length, take, IfOk, IfErr, OnErr, OnOk};
 ghost use Rattle.std.specs.Io.KnownBytes.{Appends};
 ghost use Rattle.urpf_base.specs.Faults.{HasCause, Rose};
 ghost use Rattle.urpf_base.specs.RouteUpdates.{RouteUpdate};
@@ -52,9 +53,12 @@ pub fn pull(
     items: &[Option<UpdateView<'_>>],
 ) -> Result<bool, OutOfMemory>
     requires { run.old.taken ≤ length items.now }
-    ensures first { IfOk result (λ f. f ≡ (asks_past count (length items.now - run.old.taken) && not run.old.ended)) }
-    ensures taken { OnOk result (run.new.taken ≡ run.old.taken + most_of count (length items.now - run.old.taken)) }
-    ensures ended { OnOk result (run.new.ended ≡ (run.old.ended || asks_past count (length items.now - run.old.taken))) }
+    ensures first { IfOk result (λ first. first
+        ≡ (asks_past count (length items.now - run.old.taken) && not run.old.ended)) }
+    ensures taken { OnOk result (run.new.taken
+        ≡ run.old.taken + most_of count (length items.now - run.old.taken)) }
+    ensures ended { OnOk result (run.new.ended
+        ≡ (run.old.ended || asks_past count (length items.now - run.old.taken))) }
     ensures routes { HoldsRoutes (updates_of (take run.old.taken items.now)) run.old.control.routes
         → OnOk result (HoldsRoutes (updates_of (take run.new.taken items.now)) run.new.control.routes) }
     ensures published { run.new.control.published ≡ run.old.control.published }

@@ -1,5 +1,6 @@
 //! What one line of a runbook does to a run, and which line of output it gives.
-ghost use Rattle.std.specs.Prelude.{◌≡◌, ◌⊎◌, ◌<◌, ◌+◌, ◌-◌, ◌^◌, ◌≤◌, [], length, Err, IfErr, OnErr, OnOk};
+ghost use Rattle.std.specs.Prelude.{◌≡◌, ◌⊎◌, ◌<◌, ◌+◌, ◌-◌, ◌^◌, ◌≤◌, [], length, Err};
+ghost use Rattle.std.specs.Prelude.{IfErr, OnErr, OnOk};
 ghost use Rattle.urpf_base.specs.Faults.{Rose};
 ghost use Rattle.urpf_cli.specs.RunText.{Gives, Position, next_position};
 ghost use Rattle.urpf_cli.specs.Running.{GaveLine, GaveLineFront, Stands, inputs_of};
@@ -24,7 +25,8 @@ pub fn perform(
     ensures gives { (at : Position) → Stands (inputs_of session.now) at run.old
         → OnOk result (Gives (inputs_of session.now) at line.now text.new) }
     ensures stands { (at : Position) → Stands (inputs_of session.now) at run.old
-        → OnOk result (Stands (inputs_of session.now) (next_position (length session.now.items.items) line.now at) run.new) }
+        → OnOk result (Stands (inputs_of session.now)
+        (next_position (length session.now.items.items) line.now at) run.new) }
     ensures number { run.new.control.number ≤ run.old.control.number + 1 }
 {
     match line {
@@ -55,11 +57,14 @@ pub fn take_line<K: Sink>(
     requires within { run.old.taken ≤ length session.now.items.items }
     requires room { run.old.control.number < 2 ^ 64 - 1 }
     ensures gave { (at : Position) → Stands (inputs_of session.now) at run.old
-        → OnOk result (GaveLine (inputs_of session.now) at line.now (K.held out.old) (K.held out.new)) }
+        → OnOk result (GaveLine (inputs_of session.now) at line.now
+        (K.held out.old) (K.held out.new)) }
     ensures stands { (at : Position) → Stands (inputs_of session.now) at run.old
-        → OnOk result (Stands (inputs_of session.now) (next_position (length session.now.items.items) line.now at) run.new) }
+        → OnOk result (Stands (inputs_of session.now)
+        (next_position (length session.now.items.items) line.now at) run.new) }
     ensures front { (at : Position) → Stands (inputs_of session.now) at run.old
-        → OnErr result (GaveLineFront (inputs_of session.now) at line.now (K.held out.old) (K.held out.new)) }
+        → OnErr result (GaveLineFront (inputs_of session.now) at line.now
+        (K.held out.old) (K.held out.new)) }
     ensures number { run.new.control.number ≤ run.old.control.number + 1 }
     ensures err { IfErr result (λ s. (s ≡ Status.WriteFault) ⊎ (s ≡ Status.OutOfMemory)) }
     ensures cause { result ≡ Err Status.WriteFault → Rose (K.faults out.old) (K.faults out.new) }

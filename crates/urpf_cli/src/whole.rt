@@ -1,10 +1,12 @@
 //! A run over one established session: the lines of a runbook come in, and the text of the run goes
 //! to a sink.
-ghost use Rattle.std.specs.Prelude.{◌≡◌, ◌⊎◌, ◌≤◌, ◌++◌, ℕ, List, Err, IfErr, OnErr, OnOk, length};
+ghost use Rattle.std.specs.Prelude.{◌≡◌, ◌⊎◌, ◌≤◌, ◌++◌, ℕ, List, Err, length};
+ghost use Rattle.std.specs.Prelude.{IfErr, OnErr, OnOk};
 ghost use Rattle.std.specs.Io.KnownBytes.{Appends};
 ghost use Rattle.urpf_base.specs.Faults.{Rose};
 ghost use Rattle.urpf_cli.specs.RunText.{head_text, opening, position_after};
-ghost use Rattle.urpf_cli.specs.Running.{Gave, GaveFront, Stands, WroteFront, WroteRun, inputs_of, lines_in};
+ghost use Rattle.urpf_cli.specs.Running.{Gave, GaveFront, Stands, WroteFront, WroteRun};
+ghost use Rattle.urpf_cli.specs.Running.{inputs_of, lines_in};
 
 use crate::run::{Run, offer};
 use crate::session::Session;
@@ -24,8 +26,10 @@ pub fn run_book<K: Sink>(
     session: &Session<'_>,
     out: &mut K,
 ) -> Result<(), Status>
-    ensures ok { OnOk result (WroteRun (inputs_of session.now) (lines_in book.now) (K.held out.old) (K.held out.new)) }
-    ensures front { OnErr result (WroteFront (inputs_of session.now) (lines_in book.now) (K.held out.old) (K.held out.new)) }
+    ensures ok { OnOk result (WroteRun (inputs_of session.now) (lines_in book.now)
+        (K.held out.old) (K.held out.new)) }
+    ensures front { OnErr result (WroteFront (inputs_of session.now) (lines_in book.now)
+        (K.held out.old) (K.held out.new)) }
     ensures err { IfErr result (λ s. (s ≡ Status.WriteFault) ⊎ (s ≡ Status.OutOfMemory)) }
     ensures cause { result ≡ Err Status.WriteFault → Rose (K.faults out.old) (K.faults out.new) }
 {
@@ -72,10 +76,12 @@ fn take_lines<K: Sink>(
     out: &mut K,
 ) -> Result<(), Status>
     requires { Stands (inputs_of session.now) opening run.old }
-    ensures gave { OnOk result (Gave (inputs_of session.now) (lines_in book.now) (K.held out.old) (K.held out.new)) }
+    ensures gave { OnOk result (Gave (inputs_of session.now) (lines_in book.now)
+        (K.held out.old) (K.held out.new)) }
     ensures stands { OnOk result (Stands (inputs_of session.now)
         (position_after (length session.now.items.items) (lines_in book.now) opening) run.new) }
-    ensures front { OnErr result (GaveFront (inputs_of session.now) (lines_in book.now) (K.held out.old) (K.held out.new)) }
+    ensures front { OnErr result (GaveFront (inputs_of session.now) (lines_in book.now)
+        (K.held out.old) (K.held out.new)) }
     ensures err { IfErr result (λ s. (s ≡ Status.WriteFault) ⊎ (s ≡ Status.OutOfMemory)) }
     ensures cause { result ≡ Err Status.WriteFault → Rose (K.faults out.old) (K.faults out.new) }
     ensures later { K.faults out.old ≤ K.faults out.new }

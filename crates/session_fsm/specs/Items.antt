@@ -1,0 +1,27 @@
+-- The messages that an item may be (RFC 4271, section 4).
+use Rattle.std.specs.Prelude.{ℕ, ◌≤◌, List, length, slice_index}
+use Rattle.bgp_wire.specs.declared.kinds.MsgKind.{MsgKind}
+use Rattle.bgp_wire.specs.declared.kinds.MsgKind.TheVariants.{Open, Update, Notification, Keepalive}
+use Rattle.session_fsm.specs.declared.causes.ResetCause.{ResetCause}
+use Rattle.session_fsm.specs.declared.causes.ResetCause.TheVariants.{Notified}
+use Rattle.session_fsm.specs.declared.items.Item.{Item}
+use Rattle.session_fsm.specs.declared.items.Item.TheVariants.{Up, Message, HeaderFault, Down, Elapsed}
+
+-- the octets behind the header are as many as a message of the kind has at least (RFC 4271, sections 4.2 to 4.5)
+abbrev pub HasLeast : MsgKind → ℕ → Type 0
+HasLeast Open count = 10 ≤ count
+HasLeast Update count = 4 ≤ count
+HasLeast Notification count = 2 ≤ count
+HasLeast Keepalive count = Unit {0}
+
+-- an item that is a message is one of at least the length of its kind
+abbrev pub IsWhole : Item → Type 0
+IsWhole Up = Unit {0}
+IsWhole (Message kind body) = HasLeast kind (length body.now)
+IsWhole (HeaderFault sub) = Unit {0}
+IsWhole Down = Unit {0}
+IsWhole (Elapsed seconds) = Unit {0}
+
+-- the peer ended the session with this code and subcode (RFC 4271, section 4.5)
+abbrev pub notice : List ℕ → ResetCause
+notice body = Notified (slice_index body 0) (slice_index body 1)

@@ -1,0 +1,16 @@
+//! What a session is configured with.
+use urpf_base::IfaceId;
+
+/// The configuration of a session.
+#[derive(Clone, Copy, Debug, PartialEq, Eq)]
+pub struct SessionConfig {
+    /// The interface that the peer is reached through.
+    pub iface: IfaceId,
+    /// The AS number that the peer has to have.
+    pub peer_as: u32,
+    /// The hold time in seconds that this side offers: 0 is never, and 65,535 the longest (RFC 4271,
+    /// section 4.2).
+    pub hold: u16,
+    /// The most distinct prefixes that the session may hold.
+    pub max: u32,
+}

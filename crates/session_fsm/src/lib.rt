@@ -1,0 +1,27 @@
+//! One BGP-4 session as a machine over items (RFC 4271, sections 6 and 8): in come items, which are
+//! whole messages, header faults and the seconds that pass, out goes what each of them does.
+//!
+//! Four of the six states are here: the transport is either up or down, so that there is no Connect
+//! and no Active. What is sent to the peer, and the routes that it gave, are left to the crates
+//! above.
+#![tactic(auto)]
+
+mod causes;
+mod codes;
+mod configuration;
+mod items;
+mod machine;
+mod rows;
+mod states;
+
+pub use causes::ResetCause;
+pub use codes::{
+    CEASE, FINITE_STATE_MACHINE_ERROR, HOLD_TIMER_EXPIRED, MAXIMUM_PREFIXES_REACHED,
+    MESSAGE_HEADER_ERROR, OPEN_MESSAGE_ERROR, UPDATE_MESSAGE_ERROR,
+};
+pub use configuration::SessionConfig;
+pub use items::{Effect, Item};
+pub use machine::Session;
+
+#[cfg(test)]
+mod tests;

@@ -118,7 +118,7 @@ fn in_established<'a>(
         ),
         Item::Message(MsgKind::Notification, body) => ended(notice(body)),
         Item::Message(MsgKind::Open, _) => unexpected(),
-        Item::Message(MsgKind::Update, body) => after_update(timer, peer, body),
+        Item::Message(MsgKind::Update, body) => return after_update(timer, peer, body),
         Item::Message(MsgKind::Keepalive, _) => (
             State::Established(timer.restarted(), peer),
             Effect::Nothing,

@@ -94,6 +94,10 @@ Step config (Established timer peer) (Message Open body) outcome = outcome ≡ u
 Step config (Established timer peer) (Message Update body) outcome = Accepts timer peer body.now outcome ⊎ Refuses peer body.now outcome
 Step config (Established timer peer) (Message Keepalive body) outcome = outcome ≡ (Established (started timer.limit) peer, Nothing)
 
+-- the row of the state and the item ends the session for this cause
+abbrev pub Resets : SessionConfig → State → Item → ResetCause → Type 0
+Resets config state item cause = (next : State) × Step config state item (next, Reset cause)
+
 -- a session: its configuration, its state, and how many items it took
 pub record Standing : Type 0 where
   pub config : SessionConfig

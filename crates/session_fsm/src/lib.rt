@@ -10,6 +10,7 @@ mod causes;
 mod codes;
 mod configuration;
 mod items;
+mod laws;
 mod machine;
 mod rows;
 mod states;
@@ -21,6 +22,7 @@ pub use codes::{
 };
 pub use configuration::SessionConfig;
 pub use items::{Effect, Item};
+pub use laws::one_step;
 pub use machine::Session;
 
 #[cfg(test)]

@@ -5,7 +5,7 @@ ghost use Rattle.session_fsm.specs.declared.items.Effect.TheVariants.{Reset};
 ghost use Rattle.session_fsm.specs.declared.states.State.{State};
 ghost use Rattle.session_fsm.specs.declared.states.State.TheVariants.{Idle};
 ghost use Rattle.session_fsm.specs.Items.{IsWhole};
-ghost use Rattle.session_fsm.specs.Table.{Step, Outcome, is_established};
+ghost use Rattle.session_fsm.specs.Table.{Step, Resets, Outcome, is_established};
 
 use crate::causes::ResetCause;
 use crate::codes::{CEASE, MAXIMUM_PREFIXES_REACHED};
@@ -52,6 +52,9 @@ impl Session {
         ensures only { (outcome : Outcome)
             → Step self.old.config self.old.state item.entry outcome
             → (self.new.state, result) ≡ outcome }
+        // A session is reset exactly where the table says so, and for that cause.
+        ensures resets { (cause : ResetCause) → (result ≡ Effect.Reset cause)
+            ↔ Resets self.old.config self.old.state item.entry cause }
         ensures items { self.new.items ≡ self.old.items + 1 }
         ensures config { self.new.config ≡ self.old.config }
     {

@@ -9,9 +9,14 @@
 mod causes;
 mod codes;
 mod configuration;
+mod established;
+mod idle;
 mod items;
 mod laws;
 mod machine;
+mod open_confirm;
+mod open_sent;
+mod outcomes;
 mod rows;
 mod states;
 

@@ -34,10 +34,7 @@ const OPEN: Item = Item::Message(
 );
 
 /// An OPEN of AS 64502.
-const OTHER_OPEN: Item = Item::Message(
-    MsgKind::Open,
-    b"\x04\xFB\xF6\x00\x5A\xC0\x00\x02\x01\x00",
-);
+const OTHER_OPEN: Item = Item::Message(MsgKind::Open, b"\x04\xFB\xF6\x00\x5A\xC0\x00\x02\x01\x00");
 
 /// 198.51.100.0/24 with ORIGIN, an AS_PATH of 64501 and a NEXT_HOP.
 const UPDATE: Item = Item::Message(
@@ -99,12 +96,12 @@ fn take(rt: &impl Abort, session: &mut Session, item: Item) -> Seen {
     assert!(rt; whole);
     let items = session.items();
     assert!(rt; items < 1_000_000);
-    let seen = seen(session.step(item));
+    let seen = shown(session.step(item));
     assert_eq!(rt; session.items(), items + 1);
     seen
 }
 
-fn seen(effect: Effect) -> Seen {
+fn shown(effect: Effect) -> Seen {
     match effect {
         Effect::Nothing => Seen::Nothing,
         Effect::Advanced => Seen::Advanced,
@@ -114,7 +111,7 @@ fn seen(effect: Effect) -> Seen {
 }
 
 /// The state that a session is in, told by what it does on a KEEPALIVE.
-fn stage(rt: &impl Abort, session: &mut Session) -> Stage {
+fn stage_of(rt: &impl Abort, session: &mut Session) -> Stage {
     let was_established = session.established();
     match take(rt, session, KEEPALIVE) {
         Seen::Reset(_) => Stage::OpenSent,
@@ -205,7 +202,12 @@ const ROWS: [Row; 13] = [
     Row {
         name: "89 seconds",
         item: Item::Elapsed(89),
-        outcomes: [STAYS_IDLE, STAYS_OPEN_SENT, STAYS_OPEN_CONFIRM, STAYS_ESTABLISHED],
+        outcomes: [
+            STAYS_IDLE,
+            STAYS_OPEN_SENT,
+            STAYS_OPEN_CONFIRM,
+            STAYS_ESTABLISHED,
+        ],
     },
     Row {
         name: "90 seconds",
@@ -281,7 +283,7 @@ fn each_state_takes_each_item_by_its_row(rt: HostRuntime) -> Result<(), Fail> {
             let mut session = session_after(&rt, steps, 180)?;
             let (effect, next) = row.outcomes[steps];
             assert_eq!(rt; take(&rt, &mut session, row.item), effect, "{}", row.name);
-            assert_eq!(rt; stage(&rt, &mut session), next, "{}", row.name);
+            assert_eq!(rt; stage_of(&rt, &mut session), next, "{}", row.name);
         }
     }
     Ok(())
@@ -307,9 +309,12 @@ fn the_lesser_hold_time_counts_and_zero_never_ends(rt: HostRuntime) -> Result<()
     assert_eq!(rt; take(&rt, &mut session, Item::Elapsed(1)), EXPIRED.0);
     let mut session = session_after(&rt, 3, 0)?;
     for _ in 0..2 {
-        assert_eq!(rt; take(&rt, &mut session, Item::Elapsed(u32::MAX)), Seen::Nothing);
+        assert_eq!(rt;
+            take(&rt, &mut session, Item::Elapsed(u32::MAX)),
+            Seen::Nothing
+        );
     }
-    assert_eq!(rt; stage(&rt, &mut session), Stage::Established);
+    assert_eq!(rt; stage_of(&rt, &mut session), Stage::Established);
     Ok(())
 }
 
@@ -321,6 +326,6 @@ fn an_established_session_is_ended_for_too_many_prefixes(rt: HostRuntime) -> Res
     assert_eq!(rt; session.cease(), ResetCause::Fault(6, 1));
     assert_eq!(rt; session.items(), 3);
     assert_eq!(rt; session.config().max, 10);
-    assert_eq!(rt; stage(&rt, &mut session), Stage::Idle);
+    assert_eq!(rt; stage_of(&rt, &mut session), Stage::Idle);
     Ok(())
 }

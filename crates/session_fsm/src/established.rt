@@ -1,0 +1,58 @@
+//! The rows of Established (RFC 4271, section 8.2.2): UPDATEs of the peer come in, and the routes that
+//! they change go out, or the first fault of one (RFC 4271, section 6.3).
+ghost use Rattle.std.specs.Prelude.{◌⊎◌, ◌≤◌, length};
+ghost use Rattle.session_fsm.specs.declared.states.State.TheVariants.{Established};
+ghost use Rattle.session_fsm.specs.Items.{IsWhole};
+ghost use Rattle.session_fsm.specs.Table as table;
+
+use crate::causes::ResetCause;
+use crate::codes::{MESSAGE_HEADER_ERROR, UPDATE_MESSAGE_ERROR};
+use crate::configuration::SessionConfig;
+use crate::items::{Effect, Item};
+use crate::outcomes::{ended, notice, opened, unexpected, waited};
+use crate::states::{Peer, State, Timer};
+use bgp_update::read_update;
+use bgp_wire::MsgKind;
+
+/// Routes are exchanged.
+pub fn in_established<'a>(
+    config: &SessionConfig,
+    timer: Timer,
+    peer: Peer,
+    item: Item<'a>,
+) -> (State, Effect<'a>)
+    requires { IsWhole item }
+    ensures { table.Step config.now (Established timer peer) item.entry result }
+{
+    match item {
+        Item::Up => (opened(), Effect::Reset(ResetCause::Closed)),
+        Item::Down => ended(ResetCause::Closed),
+        Item::HeaderFault(sub) => ended(ResetCause::Fault(MESSAGE_HEADER_ERROR, sub)),
+        Item::Elapsed(seconds) => waited(
+            timer.expires(seconds),
+            State::Established(timer.later(seconds), peer),
+        ),
+        Item::Message(MsgKind::Notification, body) => ended(notice(body)),
+        Item::Message(MsgKind::Open, _) => unexpected(),
+        Item::Message(MsgKind::Update, body) => return after_update(timer, peer, body),
+        Item::Message(MsgKind::Keepalive, _) => (
+            State::Established(timer.restarted(), peer),
+            Effect::Nothing,
+        ),
+    }
+}
+
+/// An UPDATE in Established: its first fault ends the session (RFC 4271, section 6.3), and without
+/// one the seconds start anew.
+fn after_update(timer: Timer, peer: Peer, body: &[u8]) -> (State, Effect<'_>)
+    requires { 4 ≤ length body.now }
+    ensures { table.Accepts timer peer body.now result ⊎ table.Refuses peer body.now result }
+{
+    match read_update(body, peer.width, peer.v6) {
+        Ok(update) => (
+            State::Established(timer.restarted(), peer),
+            Effect::Changes(update),
+        ),
+        Err(fault) => ended(ResetCause::Fault(UPDATE_MESSAGE_ERROR, fault.sub)),
+    }
+}

@@ -48,11 +48,9 @@ fn after_update(timer: Timer, peer: Peer, body: &[u8]) -> (State, Effect<'_>)
     requires { 4 ≤ length body.now }
     ensures { table.Accepts timer peer body.now result ⊎ table.Refuses peer body.now result }
 {
+    let anew = timer.restarted();
     match read_update(body, peer.width, peer.v6) {
-        Ok(update) => (
-            State::Established(timer.restarted(), peer),
-            Effect::Changes(update),
-        ),
+        Ok(update) => (State::Established(anew, peer), Effect::Changes(update)),
         Err(fault) => ended(ResetCause::Fault(UPDATE_MESSAGE_ERROR, fault.sub)),
     }
 }

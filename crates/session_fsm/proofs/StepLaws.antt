@@ -1,6 +1,5 @@
 -- Each state and each item have one outcome in the table of steps.
 use Rattle.std.proofs.Common.{◌≡◌, ◌⊎◌, inl, inr, ℕ, List, ap, sym, ◌∙◌, refl}
-use Rattle.urpf_base.specs.RouteUpdates.{RouteUpdate}
 use Rattle.bgp_wire.specs.declared.kinds.MsgKind.TheVariants.{Open, Update, Notification, Keepalive}
 use Rattle.bgp_update.specs.Faults.{HasOutcome}
 use Rattle.bgp_update.proofs.OutcomeLaws.{has_outcome, never_both, fault_once}

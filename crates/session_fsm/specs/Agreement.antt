@@ -1,5 +1,5 @@
 -- What both sides of a session agree on by the OPEN of the peer (RFC 4271, section 4.2; RFC 6793, section 4.1).
-use Rattle.std.specs.Prelude.{ℕ, min, Bool, if◌then◌else◌, List}
+use Rattle.std.specs.Prelude.{ℕ, min, Bool, if◌then◌else◌}
 use Rattle.as_path.specs.declared.widths.Width.{Width}
 use Rattle.as_path.specs.declared.widths.Width.TheVariants.{Two, Four}
 use Rattle.bgp_open.specs.declared.opening.OpenSeen.{OpenSeen}

@@ -1,5 +1,5 @@
 -- The table of steps: each state against each kind of item (RFC 4271, sections 6 and 8.2.2; the profile is our own choice).
-use Rattle.std.specs.Prelude.{◌≡◌, ◌⊎◌, ℕ, Bool, true, false, if◌then◌else◌, List, Option, Some, None}
+use Rattle.std.specs.Prelude.{◌≡◌, ◌⊎◌, ℕ, Bool, true, false, List, Option, Some, None}
 use Rattle.urpf_base.specs.RouteUpdates.{RouteUpdate}
 use Rattle.bgp_wire.specs.declared.kinds.MsgKind.TheVariants.{Open, Update, Notification, Keepalive}
 use Rattle.bgp_open.specs.declared.opening.OpenSeen.{OpenSeen}

@@ -1,4 +1,4 @@
-use Rattle.std.proofs.Common.{◌≡◌, ap, subst, sym, ◌∙◌}
+use Rattle.std.proofs.Common.{ap, subst}
 use Rattle.session_fsm.specs.Table.{Standing, Step, Outcome}
 use Rattle.session_fsm.proofs.StepLaws.{one_outcome}
 use Rattle.session_fsm.proofs.machine.Session.step.Goals as goal

@@ -1,4 +1,5 @@
 pub mod Agreement
 pub mod Items
+pub mod Runs
 pub mod Seconds
 pub mod Table

@@ -8,8 +8,8 @@ pub struct SessionConfig {
     pub iface: IfaceId,
     /// The AS number that the peer has to have.
     pub peer_as: u32,
-    /// The hold time in seconds that this side offers: 0 is never, and 65,535 the longest (RFC 4271,
-    /// section 4.2).
+    /// The hold time in seconds that this side offers, to 65,535. With 0 no seconds are too many
+    /// (RFC 4271, section 4.2).
     pub hold: u16,
     /// The most distinct prefixes that the session may hold.
     pub max: u32,

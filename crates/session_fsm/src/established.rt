@@ -1,5 +1,5 @@
-//! The rows of Established (RFC 4271, section 8.2.2): UPDATEs of the peer come in, and the routes that
-//! they change go out, or the first fault of one (RFC 4271, section 6.3).
+//! The rows of Established (RFC 4271, section 8.2.2): UPDATEs of the peer come in, and the routes
+//! that they change go out, or the first fault of one (RFC 4271, section 6.3).
 ghost use Rattle.std.specs.Prelude.{◌⊎◌, ◌≤◌, length};
 ghost use Rattle.session_fsm.specs.declared.states.State.TheVariants.{Established};
 ghost use Rattle.session_fsm.specs.Items.{IsWhole};

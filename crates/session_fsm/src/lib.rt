@@ -27,7 +27,7 @@ pub use codes::{
 };
 pub use configuration::SessionConfig;
 pub use items::{Effect, Item};
-pub use laws::one_step;
+pub use laws::{one_run, one_step};
 pub use machine::Session;
 
 #[cfg(test)]

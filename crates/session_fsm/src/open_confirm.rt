@@ -1,5 +1,5 @@
-//! The rows of OpenConfirm (RFC 4271, section 8.2.2): the first KEEPALIVE of the peer establishes the
-//! session.
+//! The rows of OpenConfirm (RFC 4271, section 8.2.2): the first KEEPALIVE of the peer establishes
+//! the session.
 ghost use Rattle.session_fsm.specs.declared.states.State.TheVariants.{OpenConfirm};
 ghost use Rattle.session_fsm.specs.Items.{IsWhole};
 ghost use Rattle.session_fsm.specs.Table as table;

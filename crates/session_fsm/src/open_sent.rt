@@ -1,5 +1,5 @@
-//! The rows of OpenSent (RFC 4271, section 8.2.2): the OPEN of the peer comes in, and what both sides
-//! agree on goes out, or its first fault (RFC 4271, section 6.2).
+//! The rows of OpenSent (RFC 4271, section 8.2.2): the OPEN of the peer comes in, and what both
+//! sides agree on goes out, or its first fault (RFC 4271, section 6.2).
 ghost use Rattle.std.specs.Prelude.{◌≡◌, ◌≤◌, length};
 ghost use Rattle.bgp_open.specs.Openings.{open_fault, open_seen};
 ghost use Rattle.session_fsm.specs.declared.states.State.TheVariants.{OpenSent};

@@ -1,6 +1,6 @@
 -- Items one after the other have one list of outcomes.
 use Rattle.std.proofs.Common.{◌≡◌, ℕ, suc, Bool, List, [], ◌∷◌, ap, sym, subst, ◌∙◌, refl}
-use Rattle.session_fsm.specs.declared.configuration.SessionConfig.{SessionConfig}
+use Rattle.urpf_base.specs.declared.sessions.SessionConfig.{SessionConfig}
 use Rattle.session_fsm.specs.declared.items.Item.{Item}
 use Rattle.session_fsm.specs.declared.states.State.{State}
 use Rattle.session_fsm.specs.Table.{Outcome, Step}

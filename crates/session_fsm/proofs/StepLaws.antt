@@ -4,9 +4,9 @@ use Rattle.bgp_wire.specs.declared.kinds.MsgKind.TheVariants.{Open, Update, Noti
 use Rattle.bgp_update.specs.Faults.{HasOutcome}
 use Rattle.bgp_update.proofs.OutcomeLaws.{has_outcome, never_both, fault_once}
 use Rattle.bgp_update.proofs.UpdateLaws.{one_update}
-use Rattle.session_fsm.specs.declared.causes.ResetCause.TheVariants.{Fault}
+use Rattle.urpf_base.specs.declared.sessions.ResetCause.TheVariants.{Fault}
 use Rattle.session_fsm.specs.declared.codes.TheConstants.{UPDATE_MESSAGE_ERROR}
-use Rattle.session_fsm.specs.declared.configuration.SessionConfig.{SessionConfig}
+use Rattle.urpf_base.specs.declared.sessions.SessionConfig.{SessionConfig}
 use Rattle.session_fsm.specs.declared.items.Item.{Item}
 use Rattle.session_fsm.specs.declared.items.Item.TheVariants.{Up, Message, HeaderFault, Down, Elapsed}
 use Rattle.session_fsm.specs.declared.items.Effect.TheVariants.{Changes}

@@ -3,7 +3,7 @@ use Rattle.std.specs.Prelude.{ℕ, min, Bool, if◌then◌else◌}
 use Rattle.as_path.specs.declared.widths.Width.{Width}
 use Rattle.as_path.specs.declared.widths.Width.TheVariants.{Two, Four}
 use Rattle.bgp_open.specs.declared.opening.OpenSeen.{OpenSeen}
-use Rattle.session_fsm.specs.declared.configuration.SessionConfig.{SessionConfig}
+use Rattle.urpf_base.specs.declared.sessions.SessionConfig.{SessionConfig}
 use Rattle.session_fsm.specs.declared.states.Peer.{Peer}
 
 -- the hold time is the lesser of the one configured and the peer's, so 0 where either is 0 (RFC 4271, section 4.2)

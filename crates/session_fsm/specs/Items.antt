@@ -2,8 +2,8 @@
 use Rattle.std.specs.Prelude.{ℕ, ◌≤◌, List, length, slice_index}
 use Rattle.bgp_wire.specs.declared.kinds.MsgKind.{MsgKind}
 use Rattle.bgp_wire.specs.declared.kinds.MsgKind.TheVariants.{Open, Update, Notification, Keepalive}
-use Rattle.session_fsm.specs.declared.causes.ResetCause.{ResetCause}
-use Rattle.session_fsm.specs.declared.causes.ResetCause.TheVariants.{Notified}
+use Rattle.urpf_base.specs.declared.sessions.ResetCause.{ResetCause}
+use Rattle.urpf_base.specs.declared.sessions.ResetCause.TheVariants.{Notified}
 use Rattle.session_fsm.specs.declared.items.Item.{Item}
 use Rattle.session_fsm.specs.declared.items.Item.TheVariants.{Up, Message, HeaderFault, Down, Elapsed}
 

@@ -1,8 +1,8 @@
 -- Items one after the other, and the limit on prefixes (RFC 4271, sections 6.7 and 8; RFC 4486, section 4).
 use Rattle.std.specs.Prelude.{◌≡◌, ℕ, suc, Bool, if◌then◌else◌, List, [], ◌∷◌}
-use Rattle.session_fsm.specs.declared.causes.ResetCause.TheVariants.{Fault}
+use Rattle.urpf_base.specs.declared.sessions.ResetCause.TheVariants.{Fault}
 use Rattle.session_fsm.specs.declared.codes.TheConstants.{CEASE, MAXIMUM_PREFIXES_REACHED}
-use Rattle.session_fsm.specs.declared.configuration.SessionConfig.{SessionConfig}
+use Rattle.urpf_base.specs.declared.sessions.SessionConfig.{SessionConfig}
 use Rattle.session_fsm.specs.declared.items.Effect.TheVariants.{Nothing, Advanced, Reset, Changes}
 use Rattle.session_fsm.specs.declared.items.Item.{Item}
 use Rattle.session_fsm.specs.declared.states.State.{State}

@@ -6,10 +6,10 @@ use Rattle.bgp_open.specs.declared.opening.OpenSeen.{OpenSeen}
 use Rattle.bgp_open.specs.Openings.{open_fault, open_seen}
 use Rattle.bgp_update.specs.Update.{IsUpdate}
 use Rattle.bgp_update.specs.Faults.{IsFaultOf}
-use Rattle.session_fsm.specs.declared.causes.ResetCause.{ResetCause}
-use Rattle.session_fsm.specs.declared.causes.ResetCause.TheVariants.{Fault, Closed}
+use Rattle.urpf_base.specs.declared.sessions.ResetCause.{ResetCause}
+use Rattle.urpf_base.specs.declared.sessions.ResetCause.TheVariants.{Fault, Closed}
 use Rattle.session_fsm.specs.declared.codes.TheConstants.{MESSAGE_HEADER_ERROR, OPEN_MESSAGE_ERROR, UPDATE_MESSAGE_ERROR, HOLD_TIMER_EXPIRED, FINITE_STATE_MACHINE_ERROR, UNSPECIFIC}
-use Rattle.session_fsm.specs.declared.configuration.SessionConfig.{SessionConfig}
+use Rattle.urpf_base.specs.declared.sessions.SessionConfig.{SessionConfig}
 use Rattle.session_fsm.specs.declared.items.Item.{Item}
 use Rattle.session_fsm.specs.declared.items.Item.TheVariants.{Up, Message, HeaderFault, Down, Elapsed}
 use Rattle.session_fsm.specs.declared.items.Effect.{Effect}

@@ -2,11 +2,11 @@
 ghost use Rattle.session_fsm.specs.declared.states.State.TheVariants.{Idle};
 ghost use Rattle.session_fsm.specs.Table as table;
 
-use crate::configuration::SessionConfig;
 use crate::items::{Effect, Item};
 use crate::outcomes::opened;
 use crate::states::State;
 use bgp_wire::MsgKind;
+use urpf_base::SessionConfig;
 
 /// There is no session until the transport comes up.
 pub fn in_idle<'a>(config: &SessionConfig, item: Item<'a>) -> (State, Effect<'a>)

@@ -1,7 +1,7 @@
 //! What happens to a session, and what each of these does (RFC 4271, section 8.1).
-use crate::causes::ResetCause;
 use bgp_update::UpdateView;
 use bgp_wire::MsgKind;
+use urpf_base::ResetCause;
 
 /// One thing that happens to a session.
 #[derive(Clone, Copy)]

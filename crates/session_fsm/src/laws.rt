@@ -1,7 +1,7 @@
 //! Laws on the table of steps and on runs, for the proofs of the crates above. Each is nothing but
 //! its contract, and nothing runs here.
 ghost use Rattle.std.specs.Prelude.{◌≡◌, ℕ, Bool, List};
-ghost use Rattle.session_fsm.specs.declared.configuration.SessionConfig.{SessionConfig};
+ghost use Rattle.urpf_base.specs.declared.sessions.SessionConfig.{SessionConfig};
 ghost use Rattle.session_fsm.specs.declared.items.Item.{Item};
 ghost use Rattle.session_fsm.specs.declared.states.State.{State};
 ghost use Rattle.session_fsm.specs.Table.{Step, Outcome};

@@ -6,9 +6,7 @@
 //! above.
 #![tactic(auto)]
 
-mod causes;
 mod codes;
-mod configuration;
 mod established;
 mod idle;
 mod items;
@@ -20,12 +18,10 @@ mod outcomes;
 mod rows;
 mod states;
 
-pub use causes::ResetCause;
 pub use codes::{
     CEASE, FINITE_STATE_MACHINE_ERROR, HOLD_TIMER_EXPIRED, MAXIMUM_PREFIXES_REACHED,
     MESSAGE_HEADER_ERROR, OPEN_MESSAGE_ERROR, UPDATE_MESSAGE_ERROR,
 };
-pub use configuration::SessionConfig;
 pub use items::{Effect, Item};
 pub use laws::{one_run, one_step};
 pub use machine::Session;

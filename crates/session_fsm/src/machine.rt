@@ -1,19 +1,18 @@
 //! A session: items come in one by one, and what each of them does goes out (RFC 4271, section 8).
 ghost use Rattle.std.specs.Prelude.{◌≡◌, ◌↔◌, ◌+◌, ◌^◌, ◌<◌, IsTrue};
-ghost use Rattle.session_fsm.specs.declared.causes.ResetCause.{ResetCause};
+ghost use Rattle.urpf_base.specs.declared.sessions.ResetCause.{ResetCause};
 ghost use Rattle.session_fsm.specs.declared.items.Effect.TheVariants.{Reset};
 ghost use Rattle.session_fsm.specs.declared.states.State.{State};
 ghost use Rattle.session_fsm.specs.declared.states.State.TheVariants.{Idle};
 ghost use Rattle.session_fsm.specs.Items.{IsWhole};
 ghost use Rattle.session_fsm.specs.Table.{Step, Resets, Outcome, is_established};
 
-use crate::causes::ResetCause;
 use crate::codes::{CEASE, MAXIMUM_PREFIXES_REACHED};
-use crate::configuration::SessionConfig;
 use crate::items::{Effect, Item};
 use crate::rows::row;
 use crate::states::State;
 use std::marker::Model;
+use urpf_base::{ResetCause, SessionConfig};
 
 /// A session with one peer. Contracts see its configuration, its state and how many items it took.
 #[derive(Drop)]

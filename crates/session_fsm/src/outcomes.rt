@@ -3,11 +3,11 @@ ghost use Rattle.std.specs.Prelude.{◌≡◌, ◌≤◌, length};
 ghost use Rattle.session_fsm.specs.Items as items;
 ghost use Rattle.session_fsm.specs.Table as table;
 
-use crate::causes::ResetCause;
 use crate::codes::{FINITE_STATE_MACHINE_ERROR, HOLD_TIMER_EXPIRED, UNSPECIFIC};
 use crate::items::Effect;
 use crate::states::{LARGE_HOLD_TIME, State, Timer};
 use bgp_open::read_notification;
+use urpf_base::ResetCause;
 
 /// The transport is up, and the OPEN of the peer is waited for.
 pub fn opened() -> State

@@ -3,13 +3,13 @@
 ghost use Rattle.session_fsm.specs.Items.{IsWhole};
 ghost use Rattle.session_fsm.specs.Table as table;
 
-use crate::configuration::SessionConfig;
 use crate::established::in_established;
 use crate::idle::in_idle;
 use crate::items::{Effect, Item};
 use crate::open_confirm::in_open_confirm;
 use crate::open_sent::in_open_sent;
 use crate::states::State;
+use urpf_base::SessionConfig;
 
 /// The row of this state and this item.
 pub fn row<'a>(config: &SessionConfig, state: State, item: Item<'a>) -> (State, Effect<'a>)

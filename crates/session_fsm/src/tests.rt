@@ -3,11 +3,11 @@
 ghost use Rattle.std.specs.Prelude.{IsTrue};
 ghost use Rattle.session_fsm.specs.Items.{IsWhole};
 
-use crate::{Effect, Item, ResetCause, Session, SessionConfig};
+use crate::{Effect, Item, Session};
 use bgp_wire::MsgKind;
 use std::process::Abort;
 use std::test::Fail;
-use urpf_base::{IfaceId, Origin};
+use urpf_base::{IfaceId, Origin, ResetCause, SessionConfig};
 
 /// What an effect is, without the octets that it borrows: of changed routes their origin.
 #[derive(Clone, Copy, Debug, PartialEq, Eq)]

@@ -13,6 +13,7 @@ mod outside;
 mod prefixes;
 mod reading;
 mod schedule;
+mod sessions;
 mod verdicts;
 mod writing;
 
@@ -26,6 +27,7 @@ pub use origins::Origin;
 pub use outside::{Failed, OutOfMemory, Sink, Source};
 pub use prefixes::Prefix;
 pub use reading::{TextFault, read_text};
+pub use sessions::{ResetCause, SessionConfig};
 pub use verdicts::Verdict;
 pub use writing::write_all;
 

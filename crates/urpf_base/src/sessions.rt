@@ -1,5 +1,6 @@
-//! What a session is configured with.
-use urpf_base::IfaceId;
+//! What a session is configured with, and why one was reset.
+
+use crate::interfaces::IfaceId;
 
 /// The configuration of a session.
 #[derive(Clone, Copy, Debug, PartialEq, Eq)]
@@ -13,4 +14,16 @@ pub struct SessionConfig {
     pub hold: u16,
     /// The most distinct prefixes that the session may hold.
     pub max: u32,
+}
+
+/// The cause of a reset.
+#[derive(Clone, Copy, Debug, PartialEq, Eq)]
+pub enum ResetCause {
+    /// This side found a fault: the error code and subcode of its NOTIFICATION (RFC 4271, section
+    /// 4.5).
+    Fault(u8, u8),
+    /// The peer sent a NOTIFICATION with this error code and subcode.
+    Notified(u8, u8),
+    /// The transport went down, or came up anew.
+    Closed,
 }

@@ -8,8 +8,6 @@ use Rattle.urpf_base.specs.RouteUpdates.{RouteUpdate, HasRoute}
 use Rattle.ip_text.specs.Texts.{SpellsAddr}
 use Rattle.report_text.specs.Lines.{check_one_line}
 use Rattle.urpf_cli.specs.Session.{IsRead, IsBadAt, IsStrangeAt, updates_of}
-use Rattle.urpf_cli.specs.declared.check.TheConstants.{STREAM_OCTETS}
-use Rattle.urpf_cli.specs.declared.session.TheConstants.{MESSAGE_HEADER_ERROR, UPDATE_MESSAGE_ERROR}
 use Rattle.urpf_cli.specs.declared.session.SessionFault.{SessionFault}
 use Rattle.urpf_cli.specs.declared.session.SessionFault.TheVariants.{Header, Update, Strange}
 use Rattle.urpf_cli.specs.declared.session.SessionFault.TheVariants as fault
@@ -36,9 +34,9 @@ pub record IsCheckLine (stream : List ℕ) (source : Addr) (line : List ℕ) : T
   pub verdict : IsTrue passes ↔ ((p : Block) × Has prefixes p × Covers p source)
   pub text : line ≡ check_one_line source passes (length read.messages) (length prefixes) (length rest)
 
--- the stream is not too long, and this is what reading it comes to
+-- the stream is not too long, at most 16 MiB, and this is what reading it comes to
 pub record Within (stream : List ℕ) (outcome : Type 0) : Type 0 where
-  pub short : length stream ≤ STREAM_OCTETS
+  pub short : length stream ≤ 16777216
   pub comes : outcome
 
 -- which status a stream deserves, where it is read to its end and the line is taken; no other status is deserved
@@ -47,7 +45,7 @@ Fate stream Done = Within stream ((said : List (Option RouteUpdate)) × (rest : 
 Fate stream Usage = ⊥
 Fate stream (BadBook line kind) = ⊥
 Fate stream (TooLong Book) = ⊥
-Fate stream (TooLong Stream) = STREAM_OCTETS < length stream
+Fate stream (TooLong Stream) = 16777216 < length stream
 Fate stream (ReadFault object) = ⊥
 Fate stream WriteFault = ⊥
 Fate stream (BadSession code sub place) = Within stream (IsBadAt stream code sub place)
@@ -61,10 +59,10 @@ IsRefused stream (Unsupported place) = IsStrangeAt stream place
 IsRefused stream OutOfMemory = Unit {0}
 IsRefused stream _ = ⊥
 
--- the status that tells the fault of a stream
+-- the status that tells the fault of a stream: error code 1 is of a header, 3 of an UPDATE (RFC 4271, section 4.5)
 abbrev pub status_of_fault : SessionFault → Status
-status_of_fault (Header sub place) = BadSession MESSAGE_HEADER_ERROR sub place
-status_of_fault (Update sub place) = BadSession UPDATE_MESSAGE_ERROR sub place
+status_of_fault (Header sub place) = BadSession 1 sub place
+status_of_fault (Update sub place) = BadSession 3 sub place
 status_of_fault (Strange place) = Unsupported place
 status_of_fault fault.OutOfMemory = OutOfMemory
 
@@ -99,3 +97,10 @@ abbrev pub IsQuiet : Status → Type 0
 IsQuiet Done = ⊥
 IsQuiet WriteFault = ⊥
 IsQuiet status = Unit {0}
+
+-- a status that names a runbook, which `check` does not read
+abbrev pub NamesBook : Status → Type 0
+NamesBook (BadBook line kind) = Unit {0}
+NamesBook (TooLong Book) = Unit {0}
+NamesBook (ReadFault Book) = Unit {0}
+NamesBook status = ⊥

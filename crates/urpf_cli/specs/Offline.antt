@@ -6,10 +6,9 @@ use Rattle.urpf_cli.specs.CheckOne.{Fate}
 use Rattle.urpf_cli.specs.RunText.{Inputs}
 use Rattle.urpf_cli.specs.Running.{WroteRun, WroteFront, lines_in}
 use Rattle.urpf_cli.specs.Session.{Leaves}
-use Rattle.urpf_cli.specs.declared.offline.TheConstants.{BOOK_OCTETS}
 use Rattle.urpf_cli.specs.declared.status.Object.TheVariants.{Book}
 use Rattle.urpf_cli.specs.declared.status.Status.{Status}
-use Rattle.urpf_cli.specs.declared.status.Status.TheVariants.{Usage, BadBook, TooLong}
+use Rattle.urpf_cli.specs.declared.status.Status.TheVariants.{Usage, BadBook, TooLong, ReadFault, OutOfMemory}
 
 -- the words are `offline`, the name of a runbook and the name of a stream
 pub record AreOfflineWords (words : List (List ℕ)) : Type 0 where
@@ -17,9 +16,9 @@ pub record AreOfflineWords (words : List (List ℕ)) : Type 0 where
   pub stream : List ℕ
   pub parts : words ≡ codes "offline" ∷ book ∷ stream ∷ []
 
--- the text of the runbook is not too long, and all its lines are taken
+-- the text of the runbook is not too long, at most 1 MiB, and all its lines are taken
 pub record HasBook (text : List ℕ) : Type 0 where
-  pub short : length text ≤ BOOK_OCTETS
+  pub short : length text ≤ 1048576
   pub rows : List (ℕ × BookLine)
   pub book : IsBook text rows
 
@@ -47,6 +46,15 @@ pub record WritesRunFront (text stream : List ℕ) (old new : Option (List ℕ))
 -- which status words, a text and a stream merit, where all that is read and written succeeds
 abbrev pub Merits : List (List ℕ) → List ℕ → List ℕ → Status → Type 0
 Merits words text stream Usage = AreOfflineWords words → ⊥
-Merits words text stream (TooLong Book) = AreOfflineWords words × (BOOK_OCTETS < length text)
-Merits words text stream (BadBook line kind) = AreOfflineWords words × (length text ≤ BOOK_OCTETS) × IsFirstFault text line kind
+Merits words text stream (TooLong Book) = AreOfflineWords words × (1048576 < length text)
+Merits words text stream (BadBook line kind) = AreOfflineWords words × (length text ≤ 1048576) × IsFirstFault text line kind
 Merits words text stream status = AreOfflineWords words × HasBook text × Fate stream status
+
+-- a status that comes after the runbook was read whole
+abbrev pub IsPastBook : Status → Type 0
+IsPastBook Usage = ⊥
+IsPastBook (BadBook line kind) = ⊥
+IsPastBook (TooLong Book) = ⊥
+IsPastBook (ReadFault Book) = ⊥
+IsPastBook OutOfMemory = ⊥
+IsPastBook status = Unit {0}

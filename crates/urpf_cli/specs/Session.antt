@@ -7,7 +7,6 @@ use Rattle.bgp_wire.specs.States.{kind_of}
 use Rattle.bgp_wire.specs.declared.kinds.MsgKind.{MsgKind}
 use Rattle.bgp_wire.specs.declared.kinds.MsgKind.TheVariants.{Open, Update, Notification, Keepalive}
 use Rattle.as_path.specs.declared.widths.Width.TheVariants.{Four}
-use Rattle.urpf_cli.specs.declared.session.TheConstants.{MESSAGE_HEADER_ERROR, UPDATE_MESSAGE_ERROR}
 use Rattle.bgp_update.specs.Faults.{IsFaultOf}
 use Rattle.bgp_update.specs.Update.{IsUpdate}
 
@@ -78,10 +77,10 @@ IsBadUpdateAt stream subcode place = StopsAt stream place (λ kind body. FailsBy
 abbrev pub IsStrangeAt : List ℕ → ℕ → Type 0
 IsStrangeAt stream place = StopsAt stream place (λ kind body. IsForeign kind)
 
--- the message at this place has this error code and subcode: of its header, or of its body (RFC 4271, section 4.5)
+-- the message at this place has this error code and subcode: of its header, which is code 1, or of its body, which is code 3 (RFC 4271, section 4.5)
 abbrev pub IsBadAt : List ℕ → ℕ → ℕ → ℕ → Type 0
 IsBadAt stream code subcode place =
-    ((code ≡ MESSAGE_HEADER_ERROR) × IsFaultAt stream subcode place) ⊎ ((code ≡ UPDATE_MESSAGE_ERROR) × IsBadUpdateAt stream subcode place)
+    ((code ≡ 1) × IsFaultAt stream subcode place) ⊎ ((code ≡ 3) × IsBadUpdateAt stream subcode place)
 
 -- the stream is messages that say this, and so many octets are left after them
 pub record Leaves (stream : List ℕ) (said : List (Option RouteUpdate)) (rest : ℕ) : Type 0 where

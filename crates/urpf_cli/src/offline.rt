@@ -6,7 +6,7 @@ ghost use Rattle.runbook.specs.declared.lines.BookKind.{BookKind};
 ghost use Rattle.runbook.specs.Book.{IsFirstFault};
 ghost use Rattle.urpf_cli.specs.declared.status.Status.{Status};
 ghost use Rattle.urpf_cli.specs.CheckOne.{Within, IsQuiet};
-ghost use Rattle.urpf_cli.specs.Offline.{AreOfflineWords, Merits, WritesRun, WritesRunFront};
+ghost use Rattle.urpf_cli.specs.Offline.{AreOfflineWords, HasBook, IsPastBook, Merits, WritesRun, WritesRunFront};
 ghost use Rattle.urpf_cli.specs.Session.{IsBadAt, IsStrangeAt};
 
 use crate::check::{STREAM_OCTETS, status_of};
@@ -42,6 +42,7 @@ pub fn offline_stream<S: Source, K: Sink>(
         → IfSome (S.left book.old) (λ text. BOOK_OCTETS < length text) }
     ensures bad_book { (line : ℕ) (kind : BookKind) → result ≡ Status.BadBook line kind
         → IfSome (S.left book.old) (λ text. (length text ≤ BOOK_OCTETS) × IsFirstFault text line kind) }
+    ensures past_book { IsPastBook result → IfSome (S.left book.old) HasBook }
     ensures read_fault { result ≡ Status.ReadFault Object.Stream
         → Rose (S.faults stream.old) (S.faults stream.new) }
     ensures too_long { result ≡ Status.TooLong Object.Stream

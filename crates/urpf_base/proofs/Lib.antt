@@ -1,6 +1,5 @@
 pub mod Alike
 pub mod Bits
-pub mod Copying
 pub mod Growth
 pub mod Membership
 pub mod Order

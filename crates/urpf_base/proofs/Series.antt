@@ -20,17 +20,21 @@ first_and_more-never : {X : Type 0} (f : List ℕ → List X) (o : Option (X × 
 first_and_more-never f None never = refl
 first_and_more-never f (Some found) never = absurd (never found refl)
 
+-- what is left behind a value that is found is shorter
+abbrev pub Shortens : {X : Type 0} → (List ℕ → Option (X × List ℕ)) → Type 0
+Shortens {X = X} front = (text rest : List ℕ) (x : X) → front text ≡ Some (x, rest) → length rest < length text
+
 -- more turns than octets change nothing
-values_within-enough : {X : Type 0} {Spells : List ℕ → X → Type 0} (front : List ℕ → Option (X × List ℕ)) → ReadsFront Spells front → (k m : ℕ) (text : List ℕ) → length text ≤ k → length text ≤ m → values_within front k text ≡ values_within front m text
-values_within-enough front reads zero zero text le_k le_m = refl
-values_within-enough front reads zero (suc m) text le_k le_m =
-    sym (first_and_more-never _ (front text) (λ found is. absurd (omega (arith, rest_shorter reads text found.1 found.0 is))))
-values_within-enough front reads (suc k) zero text le_k le_m =
-    first_and_more-never _ (front text) (λ found is. absurd (omega (arith, rest_shorter reads text found.1 found.0 is)))
-values_within-enough front reads (suc k) (suc m) text le_k le_m =
+values_within-enough : {X : Type 0} (front : List ℕ → Option (X × List ℕ)) → Shortens front → (k m : ℕ) (text : List ℕ) → length text ≤ k → length text ≤ m → values_within front k text ≡ values_within front m text
+values_within-enough front shortens zero zero text le_k le_m = refl
+values_within-enough front shortens zero (suc m) text le_k le_m =
+    sym (first_and_more-never _ (front text) (λ found is. absurd (omega (arith, shortens text found.1 found.0 is))))
+values_within-enough front shortens (suc k) zero text le_k le_m =
+    first_and_more-never _ (front text) (λ found is. absurd (omega (arith, shortens text found.1 found.0 is)))
+values_within-enough front shortens (suc k) (suc m) text le_k le_m =
     first_and_more-same _ _ (front text) (λ found is.
-    let less = rest_shorter reads text found.1 found.0 is in
-    values_within-enough front reads k m found.1 (omega (arith, less)) (omega (arith, less)))
+    let less = shortens text found.1 found.0 is in
+    values_within-enough front shortens k m found.1 (omega (arith, less)) (omega (arith, less)))
 
 within-none : {X : Type 0} (front : List ℕ → Option (X × List ℕ)) (text : List ℕ) (k : ℕ) → front text ≡ None → values_within front k text ≡ []
 within-none front text zero none = refl
@@ -41,11 +45,15 @@ pub values_in-none : {X : Type 0} (front : List ℕ → Option (X × List ℕ)) 
 values_in-none front text none = within-none front text (length text) none
 
 -- the values are the first, and then those of the rest
-pub values_in-some : {X : Type 0} {Spells : List ℕ → X → Type 0} (front : List ℕ → Option (X × List ℕ)) → ReadsFront Spells front → (text rest : List ℕ) (x : X) → front text ≡ Some (x, rest) → values_in front text ≡ x ∷ values_in front rest
-values_in-some front reads text rest x found =
-    values_within-enough front reads (length text) (suc (length text)) text (omega arith) (omega arith)
+pub values_in-found : {X : Type 0} (front : List ℕ → Option (X × List ℕ)) → Shortens front → (text rest : List ℕ) (x : X) → front text ≡ Some (x, rest) → values_in front text ≡ x ∷ values_in front rest
+values_in-found front shortens text rest x found =
+    values_within-enough front shortens (length text) (suc (length text)) text (omega arith) (omega arith)
     ∙ ap (first_and_more (values_within front (length text))) found
-    ∙ ap (λ xs. x ∷ xs) (values_within-enough front reads (length text) (length rest) rest (omega (arith, rest_shorter reads text rest x found)) (omega arith))
+    ∙ ap (λ xs. x ∷ xs) (values_within-enough front shortens (length text) (length rest) rest (omega (arith, shortens text rest x found)) (omega arith))
+
+-- the same where the first is spelled
+pub values_in-some : {X : Type 0} {Spells : List ℕ → X → Type 0} (front : List ℕ → Option (X × List ℕ)) → ReadsFront Spells front → (text rest : List ℕ) (x : X) → front text ≡ Some (x, rest) → values_in front text ≡ x ∷ values_in front rest
+values_in-some front reads = values_in-found front (rest_shorter reads)
 
 -- a text that spells these values has just them
 pub values_in-spelled : {X : Type 0} {Spells : List ℕ → X → Type 0} (front : List ℕ → Option (X × List ℕ)) → ReadsFront Spells front → (text : List ℕ) (xs : List X) → SpellsAll Spells text xs → values_in front text ≡ xs

@@ -1,7 +1,6 @@
 pub mod Address
 pub mod Faults
 pub mod Lists
-pub mod Memory
 pub mod Order
 pub mod RouteUpdates
 pub mod Series

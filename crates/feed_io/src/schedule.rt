@@ -1,6 +1,6 @@
 //! Which calls of a source or sink in memory fail.
 ghost use Rattle.std.specs.Prelude.{◌≡◌, ◌≤◌, ◌↔◌, IsTrue, Contains, []};
-ghost use Rattle.urpf_base.specs.Memory.{counted_up};
+ghost use Rattle.feed_io.specs.Memory.{counted_up};
 
 use std::marker::Model;
 
@@ -13,7 +13,7 @@ pub struct Schedule {
 }
 
 impl Model for Schedule {
-    ghost use Rattle.urpf_base.specs.Memory as memory;
+    ghost use Rattle.feed_io.specs.Memory as memory;
 
     ghost Value = { memory.Schedule };
 

@@ -1,5 +1,6 @@
--- What contracts see of sources and sinks in memory. Our own choice.
+-- What contracts see of sources, sinks and feeds in memory. Our own choice.
 use Rattle.std.specs.Prelude.{ℕ, ◌+◌, ◌-◌, ◌^◌, min, List}
+use Rattle.feed_io.specs.Events.{Event}
 
 -- the calls that fail, by their numbers from 1, how many calls there were, and how many failed
 pub record Schedule : Type 0 where
@@ -20,4 +21,9 @@ pub record StoredText : Type 0 where
 pub record StoredOutput : Type 0 where
   pub held : List ℕ
   pub room : ℕ
+  pub schedule : Schedule
+
+-- the events that a feed in memory has left, and which calls fail
+pub record StoredEvents : Type 0 where
+  pub left : List Event
   pub schedule : Schedule

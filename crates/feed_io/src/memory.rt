@@ -6,11 +6,11 @@ ghost use Rattle.std.specs.Prelude.{◌≡◌, ◌⊎◌, ◌-◌, ◌<◌, ◌�
 ghost use Rattle.std.specs.Io.{ReadsAtMost, WritesAtMost};
 ghost use Rattle.std.specs.Io.KnownBytes.{ReadConsumes, WriteAppends};
 ghost use Rattle.urpf_base.specs.Faults.{HasCause};
-ghost use Rattle.urpf_base.specs.Memory.{counted_up};
+ghost use Rattle.feed_io.specs.Memory.{counted_up};
 
-use crate::outside::{Failed, Sink, Source};
 use crate::schedule::Schedule;
 use std::marker::Model;
+use urpf_base::{Failed, Sink, Source};
 
 /// Octets in memory. No read fails.
 #[derive(Drop)]
@@ -65,7 +65,7 @@ pub struct MemSource {
 }
 
 impl Model for MemSource {
-    ghost use Rattle.urpf_base.specs.Memory.{StoredText};
+    ghost use Rattle.feed_io.specs.Memory.{StoredText};
 
     ghost Value = { StoredText };
 
@@ -123,7 +123,7 @@ pub struct MemSink {
 
 impl Model for MemSink {
     ghost use Rattle.std.specs.Prelude.{◌≤◌, vec_len, vec_capacity};
-    ghost use Rattle.urpf_base.specs.Memory.{StoredOutput};
+    ghost use Rattle.feed_io.specs.Memory.{StoredOutput};
 
     ghost Value = { StoredOutput };
 
@@ -196,7 +196,10 @@ impl Sink for MemSink {
 pub struct SureSink;
 
 impl SureSink {
-    pub fn new() -> SureSink {
+    /// A sink that needs no room.
+    pub fn new() -> SureSink
+        ensures faults { ⟦<SureSink as Sink>⟧.faults result ≡ 0 }
+    {
         SureSink
     }
 }

@@ -1,6 +1,6 @@
 use Rattle.std.proofs.Common.{length, take, drop, min, ◌≡◌, ◌+◌, ◌-◌, arith, ap, ◌∙◌}
-use Rattle.urpf_base.proofs.Copying.{copied_front, none_left}
-use Rattle.urpf_base.proofs.memory.SureSourceSource.read.Goals as goal
+use Rattle.feed_io.proofs.Copying.{copied_front, none_left}
+use Rattle.feed_io.proofs.memory.SureSourceSource.read.Goals as goal
 
 pub returns-clause-octets : goal.returns-clause-octets
 returns-clause-octets c =

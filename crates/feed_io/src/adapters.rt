@@ -1,0 +1,104 @@
+//! A real file as a source, and a real writer as a sink.
+//!
+//! They are opened at the first call and tell nothing of their contents, which no proof knows. A
+//! count of 64 bits goes up at each error.
+ghost use Rattle.std.specs.Prelude.{◌≡◌, None};
+ghost use Rattle.std.specs.Io.{ReadsAtMost};
+
+use std::io::{Read, Write};
+use std::rt::Files;
+use std::{fs, io};
+use urpf_base::{Failed, Sink, Source};
+
+/// The file at a path.
+#[derive(Drop)]
+pub struct FileSource<'a, R: Files> {
+    rt: &'a R,
+    path: &'a str,
+    file: Option<R::File>,
+    faults: u64,
+}
+
+impl<'a, R: Files> FileSource<'a, R> {
+    /// Nothing is opened yet.
+    pub fn new(rt: &'a R, path: &'a str) -> FileSource<'a, R>
+        ensures path { result.path.now ≡ path.now }
+        ensures faults { result.faults ≡ 0 }
+    {
+        FileSource {
+            rt,
+            path,
+            file: None,
+            faults: 0,
+        }
+    }
+}
+
+/// Reads from the file, which is opened first where it is not open yet.
+fn read_opened<R: Files>(
+    rt: &R,
+    path: &str,
+    file: &mut Option<R::File>,
+    buf: &mut [u8],
+) -> io::Result<usize>
+    ensures { ReadsAtMost result buf.new }
+{
+    match file {
+        Some(file) => file.read(buf),
+        None => {
+            let mut opened = fs::open(rt, path)?;
+            let count = opened.read(buf);
+            *file = Some(opened);
+            count
+        }
+    }
+}
+
+impl<'a, R: Files> Source for FileSource<'a, R> {
+    ghost left = { λ _. None };
+
+    ghost faults = { λ s. s.faults };
+
+    fn read(&mut self, buf: &mut [u8]) -> Result<usize, Failed> {
+        match read_opened(self.rt, self.path, &mut self.file, buf) {
+            Ok(count) => Ok(count),
+            Err(_) => {
+                self.faults = self.faults.saturating_add(1);
+                Err(Failed)
+            }
+        }
+    }
+}
+
+/// A writer, such as standard output.
+#[derive(Drop)]
+pub struct OutSink<W: Write + Drop> {
+    writer: W,
+    faults: u64,
+}
+
+impl<W: Write + Drop> OutSink<W> {
+    /// No write has failed yet.
+    pub fn new(writer: W) -> OutSink<W>
+        ensures faults { result.faults ≡ 0 }
+    {
+        OutSink { writer, faults: 0 }
+    }
+}
+
+impl<W: Write + Drop> Sink for OutSink<W> {
+    ghost held = { λ _. None };
+
+    ghost faults = { λ s. s.faults };
+
+    /// A write of a piece that takes nothing counts as a fault, as an error does.
+    fn write(&mut self, piece: &[u8]) -> Result<usize, Failed> {
+        match self.writer.write(piece) {
+            Ok(count) if count > 0 || piece.is_empty() => Ok(count),
+            _ => {
+                self.faults = self.faults.saturating_add(1);
+                Err(Failed)
+            }
+        }
+    }
+}

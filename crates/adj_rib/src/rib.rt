@@ -1,4 +1,6 @@
-//! The routes of one session, by prefix.
+//! The routes of one session, by prefix: routes are put in and taken out one by one, and what is
+//! asked of them goes out: the origin of a prefix, the next prefix in their order, whether any
+//! covers an address.
 ghost use Rattle.std.specs.Prelude.{◌≡◌, ◌↔◌, [], ◌∷◌, length, IsTrue, IfSome, IfNone, IfOk, OnOk, OnErr, Some, None, option_copied, ◌<◌, ◌^◌};
 ghost use Rattle.std.specs.BTreeMap.Range.{is_from_start};
 ghost use Rattle.urpf_base.specs.Address.{Block, Covers};

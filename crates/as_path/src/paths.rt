@@ -1,4 +1,5 @@
-//! A path, as a view of the value of an AS_PATH or an AS4_PATH.
+//! A path: the value of an AS_PATH or an AS4_PATH comes in, and a view of it goes out, which tells
+//! the hops and the last AS number. It borrows the octets.
 ghost use Rattle.std.specs.Prelude.{◌≡◌, ◌≤◌, ◌↔◌, List, length, IsTrue, IfSome, Some};
 ghost use Rattle.as_path.specs.Path.{Segment, IsPath};
 ghost use Rattle.as_path.specs.Hops.{hops, origin};

@@ -145,3 +145,85 @@ fn as4_path_stands_for_the_last_hops(rt: HostRuntime) -> Result<(), Fail> {
     }
     Ok(())
 }
+
+/// A path that is well formed at both widths, what it is at each: its hops and its origin.
+#[derive(Clone, Copy)]
+struct EitherWay {
+    value: &'static [u8],
+    two: (u32, Option<u32>),
+    four: (u32, Option<u32>),
+}
+
+const EITHER_WAY: [EitherWay; 2] = [
+    // 64501 64502, and then 64503 in a sequence of its own; or two AS numbers in one sequence.
+    EitherWay {
+        value: b"\x02\x02\xFB\xF5\xFB\xF6\x02\x01\xFB\xF7",
+        two: (3, Some(64503)),
+        four: (2, Some(0x0201_FBF7)),
+    },
+    // 64501 64502, and then a set of 64503; or two AS numbers in one sequence.
+    EitherWay {
+        value: b"\x02\x02\xFB\xF5\xFB\xF6\x01\x01\xFB\xF7",
+        two: (3, None),
+        four: (2, Some(0x0101_FBF7)),
+    },
+];
+
+#[test]
+fn a_path_that_fits_both_widths_is_read_by_the_one_that_is_told(
+    rt: HostRuntime,
+) -> Result<(), Fail> {
+    for either in EITHER_WAY {
+        for (width, wanted) in [(Width::Two, either.two), (Width::Four, either.four)] {
+            let path = PathView::read(either.value, width).ok_or("well formed")?;
+            let origin = origin_of(&path, None, NEITHER);
+            assert_eq!(rt;
+                (path.hops(), origin),
+                wanted,
+                "{:?} {width:?}",
+                either.value
+            );
+        }
+    }
+    Ok(())
+}
+
+/// 64497 64498, a set of 64499 and 64500, and then 64501, at each width.
+const AROUND_A_SET: [(&[u8], Width); 2] = [
+    (
+        b"\x02\x02\xFB\xF1\xFB\xF2\x01\x02\xFB\xF3\xFB\xF4\x02\x01\xFB\xF5",
+        Width::Two,
+    ),
+    (
+        b"\x02\x02\x00\x00\xFB\xF1\x00\x00\xFB\xF2\
+            \x01\x02\x00\x00\xFB\xF3\x00\x00\xFB\xF4\
+            \x02\x01\x00\x00\xFB\xF5",
+        Width::Four,
+    ),
+];
+
+#[test]
+fn the_last_segment_of_sequence_set_sequence_decides_the_origin(
+    rt: HostRuntime,
+) -> Result<(), Fail> {
+    for (value, width) in AROUND_A_SET {
+        let path = PathView::read(value, width).ok_or("well formed")?;
+        assert_eq!(rt; path.hops(), 4, "{width:?}");
+        assert_eq!(rt; origin_of(&path, None, NEITHER), Some(64501), "{width:?}");
+    }
+    Ok(())
+}
+
+#[test]
+fn an_as4_path_that_is_a_set_alone_leaves_no_origin(rt: HostRuntime) -> Result<(), Fail> {
+    // One hop, as AS_PATH of one AS has: it stands for all of that.
+    let path = PathView::read(b"\x02\x01\xFB\xF5", Width::Two).ok_or("well formed")?;
+    let four = b"\x01\x03\x00\x00\xFB\xF5\x00\x01\x86\xA0\x00\x01\x86\xA1";
+    let as4 = PathView::read(four, Width::Four).ok_or("well formed")?;
+    assert_eq!(rt; as4.hops(), 1);
+    assert_eq!(rt; origin_of(&path, Some(&as4), NEITHER), None);
+    // An empty AS_PATH has fewer hops, so that it alone counts, and it ends in no AS either.
+    let none = PathView::read(b"", Width::Two).ok_or("well formed")?;
+    assert_eq!(rt; origin_of(&none, Some(&as4), NEITHER), None);
+    Ok(())
+}

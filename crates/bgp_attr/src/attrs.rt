@@ -1,4 +1,6 @@
-//! What a field of attributes tells.
+//! What a field of attributes tells: the values of single attributes come in, and what an UPDATE
+//! needs of them goes out: whether ORIGIN and NEXT_HOP are there, the paths, the aggregators, and
+//! the octets of the IPv6 prefixes.
 ghost use Rattle.std.specs.Prelude.{◌≡◌, ◌≤◌, ◌+◌, length, option_copied};
 ghost use Rattle.std.specs.Option.{ForSome};
 ghost use Rattle.as_path.specs.Path.{octets_per};

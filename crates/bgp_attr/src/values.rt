@@ -1,4 +1,5 @@
-//! What the value of an attribute has to be, by its type.
+//! Values: the octets of an attribute's value come in, and whether they are as its type asks goes
+//! out (RFC 4271, sections 4.3 and 6.3; RFC 4760, sections 3 and 4).
 ghost use Rattle.std.specs.Prelude.{◌≡◌, ◌↔◌, ◌≤◌, ◌⊎◌, IsTrue, List, length, slice_index};
 ghost use Rattle.bgp_attr.specs.Numbers.{number_of};
 ghost use Rattle.bgp_attr.specs.Faults.{HasLength};

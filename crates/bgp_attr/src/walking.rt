@@ -1,4 +1,5 @@
-//! The walk over a field of attributes, up to its end or its first fault.
+//! The walk over a field of attributes, up to its end or its first fault: the field comes in, and
+//! what its attributes tell goes out, or the subcode of that fault (RFC 4271, section 6.3).
 ghost use Rattle.std.specs.Prelude.{◌≡◌, ℕ, List, IfOk, IfErr, IsOkAnd, IsErrAnd};
 ghost use Rattle.bgp_attr.specs.Attribute.{Attribute};
 ghost use Rattle.bgp_attr.specs.Faults.{AreAttributes, IsFirstFault};

@@ -1,5 +1,6 @@
-//! One prefix: its length in bits, of one octet, and then the least number of octets that holds so
-//! many bits (RFC 4271, section 4.3).
+//! One prefix: a field comes in, and its first prefix and what follows go out. A prefix is its
+//! length in bits, of one octet, and then the least number of octets that holds so many bits
+//! (RFC 4271, section 4.3).
 ghost use Rattle.std.specs.Prelude.{◌≡◌, ◌≤◌, length};
 ghost use Rattle.std.specs.Option.{option_map};
 ghost use Rattle.urpf_base.specs.Address.{block_of};

@@ -1,5 +1,6 @@
-//! The prefixes of an UPDATE of both families: those of a field of RFC 4271, section 4.3, which are
-//! of IPv4, and then those of a multiprotocol attribute of IPv6 (RFC 4760, section 5).
+//! The prefixes of an UPDATE of both families: two fields of prefixes come in, and their prefixes
+//! go out one by one, first those of IPv4 (RFC 4271, section 4.3), and then those of IPv6, which
+//! stand in a multiprotocol attribute (RFC 4760, section 5).
 ghost use Rattle.std.specs.Prelude.{◌≡◌};
 ghost use Rattle.std.specs.Iterator.{YieldsFirst, item_count};
 ghost use Rattle.bgp_update.specs.View.{AreFields, both_in};

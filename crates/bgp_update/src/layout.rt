@@ -1,5 +1,6 @@
-//! The three fields of an UPDATE's body (RFC 4271, section 4.3): withdrawn routes and path
-//! attributes, each after its length of two octets, and the NLRI up to the end.
+//! The layout of an UPDATE's body (RFC 4271, section 4.3): the body comes in, and its three fields
+//! go out: withdrawn routes and path attributes, each after its length of two octets, and the NLRI
+//! up to the end. What stands in the fields is left to the other files.
 ghost use Rattle.std.specs.Prelude.{◌≡◌, ℕ, List, IfSome, IsSomeAnd};
 ghost use Rattle.bgp_update.specs.Layout.{IsCounted, IsLaidOut};
 

@@ -1,4 +1,5 @@
-//! The body of an UPDATE, read whole (RFC 4271, section 4.3), or its first fault (section 6.3).
+//! Reading an UPDATE: its body comes in, and what it withdraws and announces goes out (RFC 4271,
+//! section 4.3), or its first fault (section 6.3).
 ghost use Rattle.std.specs.Prelude.{◌≡◌, ◌≤◌, ℕ, length, IfOk, IfErr, Ok, Err};
 ghost use Rattle.urpf_base.specs.RouteUpdates.{RouteUpdate};
 ghost use Rattle.bgp_update.specs.Faults.{IsFaultOf};

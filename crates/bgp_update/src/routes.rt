@@ -1,5 +1,6 @@
-//! What the attributes of an UPDATE say of its routes: whether each has the attributes that it has
-//! to have (RFC 4271, section 5; RFC 4760, section 3), and the origin of all of them.
+//! What the attributes of an UPDATE say of its routes: attributes come in, and whether each route
+//! has those that it has to have (RFC 4271, section 5; RFC 4760, section 3), and the origin of all
+//! routes go out.
 ghost use Rattle.std.specs.Prelude.{◌≡◌, ◌↔◌, Bool, IsTrue};
 ghost use Rattle.as_path.specs.declared.widths.Width.{Width};
 ghost use Rattle.bgp_attr.specs.Slots.{Values};

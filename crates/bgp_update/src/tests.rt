@@ -1,5 +1,6 @@
 //! Bodies of UPDATEs as speakers send them, and bodies with one fault and with two.
 mod faults;
+mod mistakes;
 mod origins;
 mod routes;
 

@@ -132,3 +132,16 @@ fn what_follows_a_message_is_left_for_the_next(rt: HostRuntime) {
     assert_eq!(rt; push_more(&mut framer, &stream[47..]), 19);
     assert_eq!(rt; message(&framer), Some((MsgKind::Keepalive, [].as_slice())));
 }
+
+#[test]
+fn a_marker_that_is_not_all_ones_is_a_fault_at_each_of_its_places(rt: HostRuntime) {
+    for place in 0..16 {
+        for octet in [0x00, 0x7F, 0xFE] {
+            let mut octets = header(0xFF, 19, 4);
+            octets[place] = octet;
+            let mut framer = Framer::new();
+            assert_eq!(rt; framer.push(&octets), 19, "{octet} at {place}");
+            assert_eq!(rt; framer.state(), FrameState::Fault(1), "{octet} at {place}");
+        }
+    }
+}

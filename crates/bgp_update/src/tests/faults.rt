@@ -12,7 +12,7 @@ struct Faulty {
     sub: u8,
 }
 
-const ONE_FAULT: [Faulty; 19] = [
+const ONE_FAULT: [Faulty; 23] = [
     Faulty {
         name: "the withdrawn routes run past the body",
         body: b"\x00\x01\x00\x00",
@@ -152,6 +152,37 @@ const ONE_FAULT: [Faulty; 19] = [
             \x00\x07\
             \xC0\x04\x04\x00\x00\x00\x00",
         sub: 4,
+    },
+    Faulty {
+        name: "both lengths the greatest",
+        body: b"\xFF\xFF\xFF\xFF",
+        sub: 1,
+    },
+    Faulty {
+        name: "an AGGREGATOR of a two-octet AS number",
+        body: b"\x00\x00\
+            \x00\x09\
+            \xC0\x07\x06\xFB\xF5\xC0\x00\x02\x01",
+        sub: 5,
+    },
+    Faulty {
+        name: "MP_UNREACH_NLRI without its subsequent address family",
+        body: b"\x00\x00\
+            \x00\x05\
+            \x80\x0F\x02\x00\x02",
+        sub: 9,
+    },
+    Faulty {
+        name: "a route of each family, without NEXT_HOP",
+        body: b"\x00\x00\
+            \x00\x2A\
+            \x40\x01\x01\x00\
+            \x40\x02\x06\x02\x01\x00\x00\xFB\xF5\
+            \x80\x0E\x1A\x00\x02\x01\x10\
+            \x20\x01\x0D\xB8\x00\x00\x00\x00\x00\x00\x00\x00\x00\x00\x00\x01\x00\
+            \x20\x20\x01\x0D\xB8\
+            \x18\xC6\x33\x64",
+        sub: 3,
     },
 ];
 

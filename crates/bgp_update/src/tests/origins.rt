@@ -13,7 +13,7 @@ struct Row {
     origin: Origin,
 }
 
-const ROWS: [Row; 11] = [
+const ROWS: [Row; 13] = [
     Row {
         name: "one AS",
         width: Width::Four,
@@ -145,6 +145,30 @@ const ROWS: [Row; 11] = [
             \xC0\x11\x02\x02\x00\
             \x18\xC6\x33\x64",
         origin: Some(23456),
+    },
+    Row {
+        name: "a segment of a confederation in AS4_PATH",
+        width: Width::Two,
+        body: b"\x00\x00\
+            \x00\x1D\
+            \x40\x01\x01\x00\
+            \x40\x02\x06\x02\x02\xFB\xF5\x5B\xA0\
+            \x40\x03\x04\xC0\x00\x02\x01\
+            \xC0\x11\x06\x03\x01\x00\x01\x86\xA0\
+            \x18\xC6\x33\x64",
+        origin: Some(23456),
+    },
+    Row {
+        name: "AS4_PATH of one set",
+        width: Width::Two,
+        body: b"\x00\x00\
+            \x00\x1D\
+            \x40\x01\x01\x00\
+            \x40\x02\x06\x02\x02\xFB\xF5\x5B\xA0\
+            \x40\x03\x04\xC0\x00\x02\x01\
+            \xC0\x11\x06\x01\x01\x00\x01\x86\xA0\
+            \x18\xC6\x33\x64",
+        origin: None,
     },
 ];
 

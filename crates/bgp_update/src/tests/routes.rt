@@ -157,7 +157,7 @@ struct Empty {
     body: &'static [u8],
 }
 
-const EMPTY: [Empty; 4] = [
+const EMPTY: [Empty; 6] = [
     Empty {
         name: "no routes and no attributes",
         body: b"\x00\x00\
@@ -180,6 +180,21 @@ const EMPTY: [Empty; 4] = [
         body: b"\x00\x00\
             \x00\x03\
             \x80\x63\x00",
+    },
+    Empty {
+        name: "two next hops of IPv6 and no prefix, without ORIGIN",
+        body: b"\x00\x00\
+            \x00\x28\
+            \x80\x0E\x25\x00\x02\x01\x20\
+            \x20\x01\x0D\xB8\x00\x00\x00\x00\x00\x00\x00\x00\x00\x00\x00\x01\
+            \xFE\x80\x00\x00\x00\x00\x00\x00\x00\x00\x00\x00\x00\x00\x00\x01\
+            \x00",
+    },
+    Empty {
+        name: "multicast of IPv6, which is passed over, without a next hop",
+        body: b"\x00\x00\
+            \x00\x06\
+            \x80\x0E\x03\x00\x02\x02",
     },
 ];
 

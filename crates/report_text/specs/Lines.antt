@@ -4,6 +4,8 @@ use Rattle.std.specs.List.{concat}
 use Rattle.urpf_base.specs.declared.address.Addr.{Addr}
 use Rattle.urpf_base.specs.declared.verdicts.Verdict.{Verdict}
 use Rattle.urpf_base.specs.declared.verdicts.Verdict.TheVariants.{Pass, Drop, BadHead, NoIface}
+use Rattle.urpf_base.specs.declared.sessions.ResetCause.{ResetCause}
+use Rattle.urpf_base.specs.declared.sessions.ResetCause.TheVariants.{Fault, Notified, Closed}
 use Rattle.ip_text.specs.Texts.{addr_text}
 
 -- what a run stands on: its interfaces and sessions, the distinct pairs, and the records that were skipped
@@ -23,6 +25,16 @@ publish_line number edits cells items =
 -- the end of a session: its number, its items, and the octets after its last whole message
 abbrev pub end_line : ℕ → ℕ → ℕ → List ℕ
 end_line session items rest = codes "end " ++ decimal session ++ codes " items " ++ decimal items ++ codes " rest " ++ decimal rest ++ codes "\n"
+
+-- what a cause of a reset is called: by this side's fault or the peer's NOTIFICATION, each with its code and subcode, or by the transport
+abbrev pub cause_text : ResetCause → List ℕ
+cause_text (Fault code sub) = codes "fault " ++ decimal code ++ codes " " ++ decimal sub
+cause_text (Notified code sub) = codes "notified " ++ decimal code ++ codes " " ++ decimal sub
+cause_text Closed = codes "closed"
+
+-- the reset of a session: the item it comes at, and its cause
+abbrev pub reset_line : ℕ → ℕ → ResetCause → List ℕ
+reset_line session item cause = codes "reset " ++ decimal session ++ codes " item " ++ decimal item ++ codes " " ++ cause_text cause ++ codes "\n"
 
 -- the close of a run: the number of its last publication, and how many packets had a line
 abbrev pub done_line : ℕ → ℕ → List ℕ

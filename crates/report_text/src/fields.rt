@@ -5,7 +5,7 @@ use ip_text::put_number;
 use urpf_base::Line;
 
 /// The most octets of a word, with its spaces.
-const WORD_OCTETS: usize = 32;
+pub(crate) const WORD_OCTETS: usize = 32;
 
 /// Appends the word, which brings its own spaces, and the number.
 pub(crate) fn put_field(word: &[u8], number: u64, to: &mut Line)

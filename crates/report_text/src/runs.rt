@@ -1,13 +1,14 @@
 //! The lines of a run: counts come in, and the line that tells them goes out.
 //!
 //! `run interfaces I sessions S pairs P skipped K`, `publish N edits E cells C items K0 K1 ..`,
-//! `end S items K rest R` and `done publications N packets K`, each with a line feed.
-ghost use Rattle.std.specs.Prelude.{◌≡◌, ◌+◌, ◌*◌, ◌≤◌, [], ◌∷◌, ◌++◌, length, decimal};
-ghost use Rattle.report_text.specs.Lines.{run_line, publish_line, end_line, done_line, spaced};
+//! `end S items K rest R`, `reset S item K fault C D`, `reset S item K notified C D`,
+//! `reset S item K closed` and `done publications N packets K`, each with a line feed.
+ghost use Rattle.std.specs.Prelude.{◌≡◌, ◌+◌, ◌*◌, ◌≤◌, [], ◌∷◌, ◌++◌, length, codes, decimal};
+ghost use Rattle.report_text.specs.Lines.{run_line, publish_line, end_line, reset_line, done_line, spaced, cause_text};
 
-use crate::fields::put_field;
+use crate::fields::{WORD_OCTETS, put_field};
 use ip_text::put_number;
-use urpf_base::Line;
+use urpf_base::{Line, ResetCause};
 
 /// The first line: how many interfaces and sessions, how many distinct pairs, and how many records
 /// or objects of the pair table were skipped.
@@ -69,6 +70,41 @@ pub fn put_end(session: u32, items: u64, rest: u64, to: &mut Line)
     put_field(b" items ", items, to);
     put_field(b" rest ", rest, to);
     to.push(b"\n");
+}
+
+/// The reset of a session: the number of the item that it came at, and its cause.
+pub fn put_reset(session: u32, item: u64, cause: &ResetCause, to: &mut Line)
+    requires { to.old ≡ [] }
+    ensures { to.new ≡ reset_line session item cause.now }
+{
+    put_field(b"reset ", session as u64, to);
+    put_field(b" item ", item, to);
+    put_cause(cause, to);
+    to.push(b"\n");
+}
+
+/// A space and the cause of a reset, with the error code and the subcode where it has them.
+fn put_cause(cause: &ResetCause, to: &mut Line)
+    requires { length to.old + 192 ≤ 8192 }
+    ensures text { to.new ≡ to.old ++ codes " " ++ cause_text cause.now }
+    ensures short { length to.new ≤ length to.old + 104 }
+{
+    match *cause {
+        ResetCause::Fault(code, sub) => put_codes(b" fault ", code, sub, to),
+        ResetCause::Notified(code, sub) => put_codes(b" notified ", code, sub, to),
+        ResetCause::Closed => to.push(b" closed"),
+    }
+}
+
+/// The word, which brings its own spaces, an error code and its subcode (RFC 4271, section 4.5).
+fn put_codes(word: &[u8], code: u8, sub: u8, to: &mut Line)
+    requires word_fits { length word.now ≤ WORD_OCTETS }
+    requires room { length to.old + 192 ≤ 8192 }
+    ensures text { to.new ≡ to.old ++ word.now ++ decimal code ++ codes " " ++ decimal sub }
+    ensures short { length to.new ≤ length to.old + 104 }
+{
+    put_field(word, code as u64, to);
+    put_field(b" ", sub as u64, to);
 }
 
 /// The last line: the number of the last publication, and how many packets had a line.

@@ -1,7 +1,7 @@
 //! Each line as it stands in the output.
-use crate::{put_check, put_done, put_end, put_mark, put_one, put_run};
+use crate::{put_check, put_done, put_end, put_mark, put_one, put_reset, put_run};
 use std::test::Fail;
-use urpf_base::{Addr, IfaceId, Line, Verdict};
+use urpf_base::{Addr, IfaceId, Line, ResetCause, Verdict};
 
 #[test]
 fn a_run_opens_and_closes(rt: HostRuntime) {
@@ -36,10 +36,47 @@ fn a_publication_tells_the_items_of_each_session(rt: HostRuntime) {
 }
 
 #[test]
+fn a_publication_of_the_most_sessions_has_room(rt: HostRuntime) {
+    let mut line = Line::new();
+    put_mark(0, 0, 0, &[u64::MAX; 128], &mut line);
+    // 31 octets up to `items`, 128 times a space and 20 digits, and the line feed.
+    assert_eq!(rt; line.bytes().len(), 2720);
+}
+
+#[test]
+fn the_greatest_numbers_are_told(rt: HostRuntime) {
+    let mut line = Line::new();
+    put_end(u32::MAX, u64::MAX, 0, &mut line);
+    assert_eq!(rt;
+        line.bytes(),
+        b"end 4294967295 items 18446744073709551615 rest 0\n".as_slice()
+    );
+}
+
+#[test]
 fn a_session_ends_with_its_rest(rt: HostRuntime) {
     let mut line = Line::new();
     put_end(1, 12, 18, &mut line);
     assert_eq!(rt; line.bytes(), b"end 1 items 12 rest 18\n".as_slice());
+}
+
+#[test]
+fn a_reset_names_its_item_and_its_cause(rt: HostRuntime) {
+    for (cause, text) in [
+        (
+            ResetCause::Fault(3, 11),
+            b"reset 1 item 12 fault 3 11\n".as_slice(),
+        ),
+        (
+            ResetCause::Notified(6, 0),
+            b"reset 1 item 12 notified 6 0\n".as_slice(),
+        ),
+        (ResetCause::Closed, b"reset 1 item 12 closed\n".as_slice()),
+    ] {
+        let mut line = Line::new();
+        put_reset(1, 12, &cause, &mut line);
+        assert_eq!(rt; line.bytes(), text);
+    }
 }
 
 #[test]
@@ -67,5 +104,13 @@ fn a_check_names_its_interface_and_publication(rt: HostRuntime) -> Result<(), Fa
     let mut line = Line::new();
     put_check(iface, &addr, Verdict::Drop, 12, &mut line);
     assert_eq!(rt; line.bytes(), b"check 63 198.51.100.9 drop 12\n".as_slice());
+    let iface = IfaceId::new(0).ok_or("below 64")?;
+    let addr = Addr::V6((0x2001_0DB8 << 96) + 1);
+    let mut line = Line::new();
+    put_check(iface, &addr, Verdict::Pass, 0, &mut line);
+    assert_eq!(rt;
+        line.bytes(),
+        b"check 0 2001:0db8:0000:0000:0000:0000:0000:0001 pass 0\n".as_slice()
+    );
     Ok(())
 }

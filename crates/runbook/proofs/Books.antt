@@ -6,7 +6,7 @@ use Rattle.runbook.specs.declared.lines.BookLine.{BookLine}
 use Rattle.runbook.specs.declared.lines.BookKind.{BookKind}
 use Rattle.runbook.specs.Lines.{lines_of, numbered, numbered_from, one_numbered, words_of}
 use Rattle.runbook.specs.Says.{IsJudged}
-use Rattle.runbook.specs.Book.{IsBook, IsLine, IsFirstFault}
+use Rattle.runbook.specs.Book.{IsBook, IsLine, IsFirstFault, OpensTaken}
 
 abbrev pub Line : Type 0
 Line = ℕ × List (List ℕ)
@@ -137,6 +137,26 @@ fault_found text rest line after number rows kind r cut some comes = record {
   taken = lines_taken r.before rows r.taken;
   refused = comes.found;
 }
+
+some_taken : (lines : List Line) (rows : List Row) (row : Row) → AllZip IsTaken lines (rows ++ row ∷ []) → 0 < length lines
+some_taken [] [] row all = absurd all
+some_taken [] (r ∷ rows) row all = absurd all
+some_taken (l ∷ lines) rows row all = omega arith
+
+-- where one more line is taken, a line is
+pub opens_taken : (text rest line after : List ℕ) (number : ℕ) (rows : List Row) (one : BookLine) → Reached text rest number rows
+    → IsCut rest line after → ¬ (words_of line ≡ []) → ComesTo (words_of line) (Ok one)
+    → OpensTaken text
+opens_taken text rest line after number rows one r cut some comes =
+    let more = added text rest line after number rows one r cut some comes in
+    record {
+      before = more.before;
+      behind = numbered_from (number + 1 + 1) (lines_of after);
+      parts = more.parts;
+      some = some_taken more.before rows (number + 1, one) more.taken;
+      rows = rows ++ (number + 1, one) ∷ [];
+      taken = lines_taken more.before (rows ++ (number + 1, one) ∷ []) more.taken;
+    }
 
 no_taking : (before behind : List Line) (line : Line) (others : List Row) (kind : BookKind)
     → AllZip IsLine (before ++ line ∷ behind) others → ComesTo line.1 (Err kind) → ⊥

@@ -1,5 +1,5 @@
 -- Which runbook a text is, and which line is refused first. Our own format.
-use Rattle.std.specs.Prelude.{◌≡◌, ℕ, List, ◌∷◌, ◌++◌, Ok, Err}
+use Rattle.std.specs.Prelude.{◌≡◌, ◌<◌, ℕ, List, ◌∷◌, ◌++◌, length, Ok, Err}
 use Rattle.std.specs.List.{AllZip}
 use Rattle.runbook.specs.declared.lines.BookLine.{BookLine}
 use Rattle.runbook.specs.declared.lines.BookKind.{BookKind}
@@ -23,3 +23,12 @@ pub record IsFirstFault (text : List ℕ) (number : ℕ) (kind : BookKind) : Typ
   pub rows : List (ℕ × BookLine)
   pub taken : AllZip IsLine before rows
   pub refused : IsJudged words (Err kind)
+
+-- some lines that have words, the first of the text, are taken
+pub record OpensTaken (text : List ℕ) : Type 0 where
+  pub before : List (ℕ × List (List ℕ))
+  pub behind : List (ℕ × List (List ℕ))
+  pub parts : numbered text ≡ before ++ behind
+  pub some : 0 < length before
+  pub rows : List (ℕ × BookLine)
+  pub taken : AllZip IsLine before rows

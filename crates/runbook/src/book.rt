@@ -3,7 +3,7 @@
 ghost use Rattle.std.specs.Prelude.{◌≡◌, ◌⊎◌, ℕ, ◌^◌, ◌<◌, List, [], ◌∷◌, ◌++◌, length, slice_get, IfOk, OnOk, OnErr, Ok, Err, Some};
 ghost use Rattle.runbook.specs.declared.lines.BookKind.{BookKind};
 ghost use Rattle.runbook.specs.declared.lines.BookLine.{BookLine};
-ghost use Rattle.runbook.specs.Book.{IsBook, IsFirstFault};
+ghost use Rattle.runbook.specs.Book.{IsBook, IsFirstFault, OpensTaken};
 
 use crate::cutting::first_line;
 use crate::lines::{BookKind, BookLine};
@@ -93,6 +93,8 @@ pub fn read_book(alloc: Global, text: &[u8]) -> Result<Book, ReadBook>
     ensures only_bad { (number : ℕ) (kind : BookKind) → IsFirstFault text.now number kind
         → (result ≡ Err (ReadBook.Bad (record { line = number; kind = kind })))
         ⊎ (result ≡ Err ReadBook.OutOfMemory) }
+    // Memory can run out only once a line was taken.
+    ensures memory { result ≡ Err ReadBook.OutOfMemory → OpensTaken text.now }
 {
     let mut book = Book::new(alloc);
     let mut rest = text;

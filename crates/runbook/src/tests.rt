@@ -95,6 +95,17 @@ fn what_is_off_the_grammar_is_syntax(rt: HostRuntime) {
         syntax,
         "a count past the bound"
     );
+    assert_eq!(rt;
+        fault(alloc, b"pull 1 1000000001"),
+        syntax,
+        "a count past the bound, before the session"
+    );
+    assert_eq!(rt;
+        fault(alloc, b"check 0 192.0.2.1/32"),
+        syntax,
+        "a prefix for an address"
+    );
+    assert_eq!(rt; fault(alloc, b"Publish"), syntax, "another case");
     assert_eq!(rt; fault(alloc, b"pull 0"), syntax, "a word too few");
     assert_eq!(rt; fault(alloc, b"publish now"), syntax, "a word too many");
     assert_eq!(rt;
@@ -102,6 +113,38 @@ fn what_is_off_the_grammar_is_syntax(rt: HostRuntime) {
         syntax,
         "a CR that no LF follows"
     );
+    assert_eq!(rt; fault(alloc, b"\r"), syntax, "a CR alone");
+    assert_eq!(rt;
+        fault(alloc, b"publish\r\r\n"),
+        syntax,
+        "the first of two CR"
+    );
+}
+
+#[test]
+fn a_comment_may_follow_a_word_at_once(rt: HostRuntime) -> Result<(), Fail> {
+    let book = read_book(rt.alloc(), b"pull 0 7#8\r\n#\npublish#")?;
+    let seven = BookLine::Pull {
+        session: Some(0),
+        count: Some(7),
+    };
+    assert_eq!(rt; book.len(), 2);
+    assert_eq!(rt; book.line(0), (1, seven));
+    assert_eq!(rt; book.line(1), (3, BookLine::Publish));
+    Ok(())
+}
+
+#[test]
+fn an_address_of_ipv6_is_checked(rt: HostRuntime) -> Result<(), Fail> {
+    let book = read_book(rt.alloc(), b"check 0 2001:DB8::1")?;
+    let iface = IfaceId::new(0).ok_or("below 64")?;
+    let check = BookLine::Check {
+        iface,
+        addr: Addr::V6((0x2001_0DB8 << 96) + 1),
+    };
+    assert_eq!(rt; book.len(), 1);
+    assert_eq!(rt; book.line(0), (1, check));
+    Ok(())
 }
 
 #[test]

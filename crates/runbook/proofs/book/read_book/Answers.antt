@@ -1,7 +1,7 @@
 use Rattle.std.proofs.Common.{◌≡◌, ◌+◌, Ok, Err, inl, ap, sym, subst, ◌∙◌}
 use Rattle.runbook.specs.Lines.{words_of}
 use Rattle.runbook.specs.Book.{IsFirstFault}
-use Rattle.runbook.proofs.Books.{ComesTo, IsCut, Reached, added, book_read, one_book, no_fault, fault_found, no_book, one_fault, reached_end, comes_to}
+use Rattle.runbook.proofs.Books.{ComesTo, IsCut, Reached, added, book_read, opens_taken, one_book, no_fault, fault_found, no_book, one_fault, reached_end, comes_to}
 use Rattle.runbook.proofs.Faults.{same_line, same_kind, same_answer}
 use Rattle.runbook.proofs.book.read_book.Goals as goal
 
@@ -26,6 +26,12 @@ returns-in-Err-clause-only_bad c number kind fault =
     let refused : ComesTo (words_of c.first_line.result.0.now) (Err c.in-Err.kind) = comes_to _ c.in-Some.judged _ c.in-Some.ensures.found c.in-Some.ensures.only c.in-Err.is in
     let same = one_fault c.args.text.now c.loop-rest.rest.now _ _ c.loop-rest.number c.loop-rest.book c.in-Err.kind number kind c.loop-rest.invariant cut c.in-Some.ensures.some refused fault in
     inl (same_answer _ _ _ _ same.0 same.1)
+
+pub returns-in_default-push-clause-memory : goal.returns-in_default-push-clause-memory
+returns-in_default-push-clause-memory c is =
+    let cut : IsCut c.loop-rest.rest.now c.first_line.result.0.now c.first_line.result.1.now = record { parts = c.first_line.ensures.parts; shorter = c.first_line.ensures.shorter } in
+    let comes : ComesTo (words_of c.first_line.result.0.now) (Ok c.in-Ok.line) = comes_to _ c.in-Some.judged _ c.in-Some.ensures.found c.in-Some.ensures.only c.in-Ok.is in
+    opens_taken c.args.text.now c.loop-rest.rest.now _ _ c.loop-rest.number c.loop-rest.book c.in-Ok.line c.loop-rest.invariant cut c.in-Some.ensures.some comes
 
 pub loop-rest-preserved : goal.loop-rest-preserved
 loop-rest-preserved c =

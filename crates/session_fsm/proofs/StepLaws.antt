@@ -1,5 +1,9 @@
 -- Each state and each item have one outcome in the table of steps.
-use Rattle.std.proofs.Common.{◌≡◌, ◌⊎◌, inl, inr, ℕ, List, ap, sym, ◌∙◌, refl}
+use Rattle.std.proofs.Common.{◌≡◌, ◌⊎◌, inl, inr, ℕ, List, ap, subst, sym, ◌∙◌, refl}
+use Rattle.std.specs.Borrow.{Bor}
+use Rattle.bgp_wire.specs.declared.kinds.MsgKind.{MsgKind}
+use Rattle.bgp_open.specs.Openings.{open_fault, open_seen}
+use Rattle.session_fsm.specs.Items.{notice}
 use Rattle.bgp_wire.specs.declared.kinds.MsgKind.TheVariants.{Open, Update, Notification, Keepalive}
 use Rattle.bgp_update.specs.Faults.{HasOutcome}
 use Rattle.bgp_update.proofs.OutcomeLaws.{has_outcome, never_both, fault_once}
@@ -15,7 +19,7 @@ use Rattle.session_fsm.specs.declared.states.State.{State}
 use Rattle.session_fsm.specs.declared.states.State.TheVariants.{Idle, OpenSent, OpenConfirm, Established}
 use Rattle.session_fsm.specs.declared.states.Timer.{Timer}
 use Rattle.session_fsm.specs.Seconds.{started}
-use Rattle.session_fsm.specs.Table.{Outcome, Step, Accepts, Refuses, ended}
+use Rattle.session_fsm.specs.Table.{Outcome, Step, Accepts, Refuses, after_open, ended}
 
 -- an UPDATE in Established has one outcome
 pub one_answer : (timer : Timer) (peer : Peer) (body : List ℕ) (a b : Outcome)
@@ -103,3 +107,22 @@ some_outcome config (Established timer peer) (Elapsed seconds) = (_, refl)
 some_outcome config (Established timer peer) (Message Open body) = (_, refl)
 some_outcome config (Established timer peer) (Message Update body) = some_answer timer peer body.now (has_outcome peer.width peer.v6 body.now)
 some_outcome config (Established timer peer) (Message Keepalive body) = (_, refl)
+
+-- the row of a message is that of its body, wherever it stands
+pub same_body : (config : SessionConfig) (state : State) (kind : MsgKind) (a b : Bor (List ℕ)) (outcome : Outcome) → a.now ≡ b.now → Step config state (Message kind a) outcome → Step config state (Message kind b) outcome
+same_body config Idle Open a b outcome same is = is
+same_body config Idle Update a b outcome same is = is
+same_body config Idle Notification a b outcome same is = is
+same_body config Idle Keepalive a b outcome same is = is
+same_body config (OpenSent timer) Open a b outcome same is = subst (λ (t : List ℕ). outcome ≡ after_open config (open_seen t) (open_fault t config.peer_as)) same is
+same_body config (OpenSent timer) Update a b outcome same is = is
+same_body config (OpenSent timer) Notification a b outcome same is = subst (λ (t : List ℕ). outcome ≡ ended (notice t)) same is
+same_body config (OpenSent timer) Keepalive a b outcome same is = is
+same_body config (OpenConfirm timer peer) Open a b outcome same is = is
+same_body config (OpenConfirm timer peer) Update a b outcome same is = is
+same_body config (OpenConfirm timer peer) Notification a b outcome same is = subst (λ (t : List ℕ). outcome ≡ ended (notice t)) same is
+same_body config (OpenConfirm timer peer) Keepalive a b outcome same is = is
+same_body config (Established timer peer) Open a b outcome same is = is
+same_body config (Established timer peer) Update a b outcome same is = subst (λ (t : List ℕ). Accepts timer peer t outcome ⊎ Refuses peer t outcome) same is
+same_body config (Established timer peer) Notification a b outcome same is = subst (λ (t : List ℕ). outcome ≡ ended (notice t)) same is
+same_body config (Established timer peer) Keepalive a b outcome same is = is

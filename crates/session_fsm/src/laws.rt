@@ -1,11 +1,27 @@
-//! Laws on the table of steps and on runs, for the proofs of the crates above. Each is nothing but
-//! its contract, and nothing runs here.
-ghost use Rattle.std.specs.Prelude.{◌≡◌, ℕ, Bool, List};
+//! Laws on the table of steps and on assigned numbers, for the proofs of the crates above. Each is
+//! nothing but its contract, and nothing runs here.
+ghost use Rattle.std.specs.Prelude.{◌≡◌};
 ghost use Rattle.urpf_base.specs.declared.sessions.SessionConfig.{SessionConfig};
 ghost use Rattle.session_fsm.specs.declared.items.Item.{Item};
 ghost use Rattle.session_fsm.specs.declared.states.State.{State};
 ghost use Rattle.session_fsm.specs.Table.{Step, Outcome};
-ghost use Rattle.session_fsm.specs.Runs.{Runs};
+
+use crate::codes::{
+    CEASE, FINITE_STATE_MACHINE_ERROR, HOLD_TIMER_EXPIRED, MAXIMUM_PREFIXES_REACHED,
+    MESSAGE_HEADER_ERROR, OPEN_MESSAGE_ERROR, UNSPECIFIC, UPDATE_MESSAGE_ERROR,
+};
+use crate::states::LARGE_HOLD_TIME;
+
+/// The error codes and subcodes have the numbers that the standards assign (RFC 4271, section 4.5;
+/// RFC 4486, section 4), and the peer's OPEN is waited for as long as RFC 4271, section 8.2.2,
+/// suggests. Contracts and definitions cite them by name.
+pub fn assigned_numbers()
+    ensures messages { (MESSAGE_HEADER_ERROR ≡ 1) × (OPEN_MESSAGE_ERROR ≡ 2)
+        × (UPDATE_MESSAGE_ERROR ≡ 3) }
+    ensures others { (HOLD_TIMER_EXPIRED ≡ 4) × (FINITE_STATE_MACHINE_ERROR ≡ 5) × (CEASE ≡ 6) }
+    ensures subcodes { (UNSPECIFIC ≡ 0) × (MAXIMUM_PREFIXES_REACHED ≡ 1) }
+    ensures wait { LARGE_HOLD_TIME ≡ 240 }
+{}
 
 /// Each state and each item have one outcome: no row is missing, and no two differ.
 pub fn one_step()
@@ -13,14 +29,4 @@ pub fn one_step()
         → (outcome : Outcome) × Step config state item outcome }
     ensures only { (config : SessionConfig) (state : State) (item : Item) (a b : Outcome)
         → Step config state item a → Step config state item b → a ≡ b }
-{}
-
-/// From each state items have one list of outcomes, whichever of them leave too many prefixes.
-pub fn one_run()
-    ensures some { (config : SessionConfig) (over : ℕ → Bool) (number : ℕ) (state : State)
-        (items : List Item) → (outcomes : List Outcome)
-        × Runs config over number state items outcomes }
-    ensures only { (config : SessionConfig) (over : ℕ → Bool) (number : ℕ) (state : State)
-        (items : List Item) (a b : List Outcome) → Runs config over number state items a
-        → Runs config over number state items b → a ≡ b }
 {}

@@ -23,7 +23,7 @@ pub use codes::{
     MESSAGE_HEADER_ERROR, OPEN_MESSAGE_ERROR, UPDATE_MESSAGE_ERROR,
 };
 pub use items::{Effect, Item};
-pub use laws::{one_run, one_step};
+pub use laws::{assigned_numbers, one_step};
 pub use machine::Session;
 
 #[cfg(test)]

@@ -329,3 +329,45 @@ fn an_established_session_is_ended_for_too_many_prefixes(rt: HostRuntime) -> Res
     assert_eq!(rt; stage_of(&rt, &mut session), Stage::Idle);
     Ok(())
 }
+
+/// An OPEN of AS 64501 without the capability of four-octet AS numbers.
+const TWO_OCTET_OPEN: Item = Item::Message(
+    MsgKind::Open,
+    b"\x04\xFB\xF5\x00\x5A\xC0\x00\x02\x01\x00",
+);
+
+/// 198.51.100.0/24 with an AS_PATH that is well formed at both widths. At two octets it is 64501
+/// 64502 and then 64503, at four two AS numbers.
+const EITHER_WAY: Item = Item::Message(
+    MsgKind::Update,
+    b"\x00\x00\
+        \x00\x18\
+        \x40\x01\x01\x00\
+        \x40\x02\x0A\x02\x02\xFB\xF5\xFB\xF6\x02\x01\xFB\xF7\
+        \x40\x03\x04\xC0\x00\x02\x01\
+        \x18\xC6\x33\x64",
+);
+
+#[test]
+fn two_sessions_in_turns_read_the_same_octets_each_at_its_own_width(
+    rt: HostRuntime,
+) -> Result<(), Fail> {
+    let mut two = session(90)?;
+    for item in [Item::Up, TWO_OCTET_OPEN, KEEPALIVE] {
+        assert_eq!(rt; take(&rt, &mut two, item), Seen::Advanced);
+    }
+    let mut four = session_after(&rt, 3, 90)?;
+    for _ in 0..2 {
+        let seen = take(&rt, &mut four, EITHER_WAY);
+        assert_eq!(rt; seen, Seen::Changes(Some(0x0201_FBF7)));
+        let seen = take(&rt, &mut two, EITHER_WAY);
+        assert_eq!(rt; seen, Seen::Changes(Some(64503)));
+    }
+    // At two octets the path goes on with a segment of type FB, which does not exist.
+    assert_eq!(rt;
+        take(&rt, &mut two, UPDATE),
+        Seen::Reset(ResetCause::Fault(3, 11))
+    );
+    assert_eq!(rt; take(&rt, &mut four, UPDATE), Seen::Changes(Some(64501)));
+    Ok(())
+}

@@ -1,3 +1,12 @@
+pub mod Counting
+pub mod Held
+pub mod ItemLaws
 pub mod Missing
+pub mod PullLaws
 pub mod Routes
+pub mod RunLaws
+pub mod SomeRun
+pub mod StandingLaws
+pub mod TakingLaws
+pub mod TurnLaws
 pub mod Walks

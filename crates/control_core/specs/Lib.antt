@@ -1,3 +1,12 @@
+pub mod Controls
 pub mod Differences
+pub mod Effects
+pub mod Items
+pub mod Pulls
+pub mod Runs
 pub mod Standing
 pub mod Table
+pub mod Taking
+pub mod TurnParts
+pub mod Turns
+pub mod Waiting

@@ -1,20 +1,48 @@
--- What contracts see of a control.
-use Rattle.std.specs.Prelude.{ℕ, Bool, refl}
-use Rattle.std.specs.Coded.{Coded, code_by, coded×, coded_ℕ, coded_bool}
-use Rattle.adj_rib.specs.Routes.{Routes}
-use Rattle.adj_rib.specs.Stored.{routes_code}
+-- Which events a session and its routes stand for, where no event is kept (RFC 4271, sections 3.2 and 8).
+use Rattle.std.specs.Prelude.{◌≡◌, ℕ, Bool, true, false, List, [], ◌++◌, length, Some, None}
+use Rattle.std.specs.List.{concat, AllByRecursion}
+use Rattle.bgp_wire.specs.Frames.{Framing, Fault, IsMessage}
+use Rattle.feed_io.specs.Events.{Event}
+use Rattle.session_fsm.specs.declared.items.Effect.{Effect}
+use Rattle.control_core.specs.declared.intake.Intake.{Intake}
+use Rattle.control_core.specs.declared.peering.Peering.{Peering}
+use Rattle.control_core.specs.Items.{Item, Stretch, AreItems, AreItemsOf, stretch_at_end, octet_count}
+use Rattle.control_core.specs.Effects.{HoldsAll}
+use Rattle.control_core.specs.Runs.{Runs}
 
--- the routes of now, those of the last publication, its number, and whether memory was wanted once
-pub record Standing : Type 0 where
-  pub routes : Routes
-  pub published : Routes
-  pub number : ℕ
-  pub spent : Bool
+-- the octets that are held: those in the framer, and behind them those that wait
+abbrev pub held : Intake → List ℕ
+held intake = intake.framer ++ intake.waiting
 
--- how standings are told apart, by which the model of a control stores them
-abbrev pub standing_code : Coded Standing
-standing_code =
-    code_by ((Routes × Routes) × (ℕ × Bool)) (coded× (coded× routes_code routes_code) (coded× coded_ℕ coded_bool))
-    (λ s. ((s.routes, s.published), (s.number, s.spent)))
-    (λ p. record { routes = p.0.0; published = p.0.1; number = p.1.0; spent = p.1.1 })
-    (λ _. refl)
+-- the text is whole messages, and then these octets, whose items are these
+pub record IsUsedUpTo (text octets : List ℕ) (pending : List Item) : Type 0 where
+  pub used : List (List ℕ)
+  pub parts : text ≡ concat used ++ octets
+  pub each : AllByRecursion IsMessage used
+  pub items : AreItemsOf octets pending
+
+-- the header behind the messages of the text has a fault
+pub record HasFault (text : List ℕ) : Type 0 where
+  pub framing : Framing text
+  pub subcode : ℕ
+  pub fault : framing.end ≡ Fault subcode
+
+-- how the octets that are held, and the items still to be taken, stand to the stretch that reaches the end of the events:
+-- where it takes more octets they are what its items have not used; where no transport is up, or its header fault was taken, there are none
+abbrev pub HoldsStretch : Bool → Stretch → List ℕ → List Item → Type 0
+HoldsStretch true None octets pending = ⊥
+HoldsStretch true (Some text) octets pending = IsUsedUpTo text octets pending
+HoldsStretch false None octets pending = (octets ≡ []) × (pending ≡ [])
+HoldsStretch false (Some text) octets pending = (octets ≡ []) × (pending ≡ []) × HasFault text
+
+-- the session took the first items of these events, which had these effects; it has the state and the routes that they leave,
+-- holds the octets that they have not used, and counts the octets of all events
+pub record StandsFor (events : List Event) (effects : List Effect) (peering : Peering) : Type 0 where
+  pub took : List Item
+  pub pending : List Item
+  pub items : AreItems events (took ++ pending)
+  pub runs : Runs peering.session.config took effects peering.session.state
+  pub counted : peering.session.items ≡ length effects
+  pub routes : HoldsAll effects peering.rib
+  pub stretch : HoldsStretch peering.intake.taking (stretch_at_end None events) (held peering.intake) pending
+  pub octets : peering.octets ≡ octet_count events

@@ -1,0 +1,37 @@
+-- What the parts of a turn do. Our own choice, over the definitions of items and their effects.
+use Rattle.std.specs.Prelude.{◌≡◌, ◌+◌, List, [], ◌∷◌, ◌++◌, Option, Result, Ok, Err}
+use Rattle.urpf_base.specs.declared.outside.OutOfMemory as memory
+use Rattle.urpf_base.specs.declared.sessions.ResetCause.{ResetCause}
+use Rattle.feed_io.specs.Events.{Event}
+use Rattle.session_fsm.specs.declared.items.Effect.{Effect}
+use Rattle.control_core.specs.declared.limits.RunFault.{RunFault}
+use Rattle.control_core.specs.declared.limits.RunFault.TheVariants.{OutOfMemory}
+use Rattle.control_core.specs.declared.peering.Peering.{Peering}
+use Rattle.control_core.specs.declared.peering.Turn.{Turn}
+use Rattle.control_core.specs.declared.peering.Turn.TheVariants.{Took, Octets, End}
+use Rattle.control_core.specs.Standing.{StandsFor}
+use Rattle.control_core.specs.Taking.{reset_of}
+
+-- one item of these events was taken, and its effect is told
+pub record TookItem (events : List Event) (effects : List Effect) (new : Peering) (result : Result Turn RunFault) : Type 0 where
+  pub effect : Effect
+  pub stands : StandsFor events (effects ++ effect ∷ []) new
+  pub told : result ≡ Ok (Took (reset_of effect))
+
+-- what a turn answers that took an item
+abbrev pub answer_of : Result (Option ResetCause) memory.OutOfMemory → Result Turn RunFault
+answer_of (Ok reset) = Ok (Took reset)
+answer_of (Err failed) = Err OutOfMemory
+
+-- one item was counted, and no octet
+pub record CountsItem (old new : Peering) : Type 0 where
+  pub items : new.session.items ≡ old.session.items + 1
+  pub octets : new.octets ≡ old.octets
+  pub ended : new.ended ≡ old.ended
+
+-- an item was taken, or memory ran out
+abbrev pub IsItem : Result Turn RunFault → Type 0
+IsItem (Ok (Took reset)) = Unit {0}
+IsItem (Ok Octets) = ⊥
+IsItem (Ok (End rest)) = ⊥
+IsItem (Err fault) = fault ≡ OutOfMemory

@@ -2,12 +2,13 @@
 //! name, and ends with its status.
 #![tactic(auto)]
 
+use feed_io::{FileSource, OutSink, TraceFeed};
 use std::io::Write;
 use std::process::ExitCode;
 use std::rt::{Env, Files};
 use std::{env, io};
 use urpf_base::{Line, write_all};
-use urpf_cli::{FileSource, OutSink, Status, check_one, exit_code, offline_stream, put_status};
+use urpf_cli::{Status, check_one, exit_code, offline_feed, put_status};
 
 fn main(rt: HostRuntime) -> ExitCode {
     let status = run(&rt);
@@ -21,13 +22,14 @@ fn run<R: AllocGlobal + Env + Files + Print>(rt: &R) -> Status {
         Ok(words) => words,
         Err(status) => return status,
     };
-    let mut first = FileSource::new(rt, word(&words, 1));
-    let mut second = FileSource::new(rt, word(&words, 2));
     let mut out = OutSink::new(io::writer(rt));
     if word(&words, 0) == "offline" {
-        return offline_stream(rt.alloc(), &words, &mut first, &mut second, &mut out);
+        let mut book = FileSource::new(rt, word(&words, 1));
+        let mut feed = TraceFeed::new(FileSource::new(rt, word(&words, 2)));
+        return offline_feed(rt.alloc(), &words, &mut book, &mut feed, &mut out);
     }
-    check_one(rt.alloc(), &words, &mut first, &mut out)
+    let mut session = FileSource::new(rt, word(&words, 1));
+    check_one(rt.alloc(), &words, &mut session, &mut out)
 }
 
 /// The word at this place, or nothing where there are fewer words.

@@ -16,8 +16,9 @@ use Rattle.std.proofs.lemmas.List.{take-append-drop}
 use Rattle.urpf_cli.specs.CheckOne.{AreWords, IsCheckLine, Within, IsRefused, Fate, FitNoForm, Deserves, WritesFront, WritesLine}
 use Rattle.urpf_cli.specs.declared.check.TheConstants.{STREAM_OCTETS}
 use Rattle.urpf_cli.specs.declared.status.Object.TheVariants.{Book, Stream}
+use Rattle.urpf_cli.specs.declared.status.Object.TheVariants as named
 use Rattle.urpf_cli.specs.declared.status.Status.{Status}
-use Rattle.urpf_cli.specs.declared.status.Status.TheVariants.{Done, Usage, BadBook, TooLong, ReadFault, WriteFault, BadSession, Unsupported, OutOfMemory}
+use Rattle.urpf_cli.specs.declared.status.Status.TheVariants.{Done, Usage, BadBook, TooLong, ReadFault, WriteFault, ItemLimit, OctetLimit, BadSession, Unsupported, OutOfMemory}
 
 -- a way to frame the stream
 abbrev framing : {stream rest : List ℕ} {messages : List (List ℕ)} {end : End} → Frames stream messages rest end → Framing stream
@@ -143,9 +144,12 @@ fate_done stream Done a b = refl
 fate_done stream Usage a b = absurd b
 fate_done stream (BadBook line kind) a b = absurd b
 fate_done stream (TooLong Book) a b = absurd b
+fate_done stream (TooLong (named.Session session)) a b = absurd b
 fate_done stream (TooLong Stream) a b = absurd (too_long_or_within stream b a)
 fate_done stream (ReadFault object) a b = absurd b
 fate_done stream WriteFault a b = absurd b
+fate_done stream (ItemLimit session) a b = absurd b
+fate_done stream (OctetLimit session) a b = absurd b
 fate_done stream (BadSession code sub place) a b = absurd (clean_or_bad stream a.comes.0 a.comes.1 code sub place a.comes.2 b.comes)
 fate_done stream (Unsupported place) a b =
     absurd (clean_or_strange stream a.comes.0 a.comes.1 place a.comes.2 b.comes)
@@ -156,9 +160,12 @@ fate_too_long stream Done a b = absurd (too_long_or_within stream a b)
 fate_too_long stream Usage a b = absurd b
 fate_too_long stream (BadBook line kind) a b = absurd b
 fate_too_long stream (TooLong Book) a b = absurd b
+fate_too_long stream (TooLong (named.Session session)) a b = absurd b
 fate_too_long stream (TooLong Stream) a b = refl
 fate_too_long stream (ReadFault object) a b = absurd b
 fate_too_long stream WriteFault a b = absurd b
+fate_too_long stream (ItemLimit session) a b = absurd b
+fate_too_long stream (OctetLimit session) a b = absurd b
 fate_too_long stream (BadSession code sub place) a b = absurd (too_long_or_within stream a b)
 fate_too_long stream (Unsupported place) a b = absurd (too_long_or_within stream a b)
 fate_too_long stream OutOfMemory a b = absurd b
@@ -168,9 +175,12 @@ fate_bad stream code sub place Done a b = absurd (clean_or_bad stream b.comes.0 
 fate_bad stream code sub place Usage a b = absurd b
 fate_bad stream code sub place (BadBook line kind) a b = absurd b
 fate_bad stream code sub place (TooLong Book) a b = absurd b
+fate_bad stream code sub place (TooLong (named.Session session)) a b = absurd b
 fate_bad stream code sub place (TooLong Stream) a b = absurd (too_long_or_within stream b a)
 fate_bad stream code sub place (ReadFault object) a b = absurd b
 fate_bad stream code sub place WriteFault a b = absurd b
+fate_bad stream code sub place (ItemLimit session) a b = absurd b
+fate_bad stream code sub place (OctetLimit session) a b = absurd b
 fate_bad stream code sub place (BadSession other found at) a b = same_bad stream code sub place other found at a.comes b.comes
 fate_bad stream code sub place (Unsupported at) a b =
     absurd (bad_or_strange stream code sub place at a.comes b.comes)
@@ -182,9 +192,12 @@ fate_unsupported stream place Done a b =
 fate_unsupported stream place Usage a b = absurd b
 fate_unsupported stream place (BadBook line kind) a b = absurd b
 fate_unsupported stream place (TooLong Book) a b = absurd b
+fate_unsupported stream place (TooLong (named.Session session)) a b = absurd b
 fate_unsupported stream place (TooLong Stream) a b = absurd (too_long_or_within stream b a)
 fate_unsupported stream place (ReadFault object) a b = absurd b
 fate_unsupported stream place WriteFault a b = absurd b
+fate_unsupported stream place (ItemLimit session) a b = absurd b
+fate_unsupported stream place (OctetLimit session) a b = absurd b
 fate_unsupported stream place (BadSession code sub at) a b =
     absurd (bad_or_strange stream code sub at place b.comes a.comes)
 fate_unsupported stream place (Unsupported at) a b = ap (λ n. Unsupported n) (same_strange stream place at a.comes b.comes)
@@ -196,9 +209,12 @@ one_fate stream Done s a b = fate_done stream s a b
 one_fate stream Usage s a b = absurd a
 one_fate stream (BadBook line kind) s a b = absurd a
 one_fate stream (TooLong Book) s a b = absurd a
+one_fate stream (TooLong (named.Session session)) s a b = absurd a
 one_fate stream (TooLong Stream) s a b = fate_too_long stream s a b
 one_fate stream (ReadFault object) s a b = absurd a
 one_fate stream WriteFault s a b = absurd a
+one_fate stream (ItemLimit session) s a b = absurd a
+one_fate stream (OctetLimit session) s a b = absurd a
 one_fate stream (BadSession code sub place) s a b = fate_bad stream code sub place s a b
 one_fate stream (Unsupported place) s a b = fate_unsupported stream place s a b
 one_fate stream OutOfMemory s a b = absurd a
@@ -211,6 +227,8 @@ one_answer words stream source r (BadBook line kind) fit fate deserved = absurd 
 one_answer words stream source r (TooLong object) fit fate deserved = one_fate stream r (TooLong object) fate deserved.1
 one_answer words stream source r (ReadFault object) fit fate deserved = absurd deserved.1
 one_answer words stream source r WriteFault fit fate deserved = absurd deserved.1
+one_answer words stream source r (ItemLimit session) fit fate deserved = absurd deserved.1
+one_answer words stream source r (OctetLimit session) fit fate deserved = absurd deserved.1
 one_answer words stream source r (BadSession code sub place) fit fate deserved = one_fate stream r (BadSession code sub place) fate deserved.1
 one_answer words stream source r (Unsupported place) fit fate deserved = one_fate stream r (Unsupported place) fate deserved.1
 one_answer words stream source r OutOfMemory fit fate deserved = absurd deserved.1
@@ -222,6 +240,8 @@ no_form words stream (BadBook line kind) none deserved = absurd (none deserved.0
 no_form words stream (TooLong object) none deserved = absurd (none deserved.0.0 deserved.0.1)
 no_form words stream (ReadFault object) none deserved = absurd (none deserved.0.0 deserved.0.1)
 no_form words stream WriteFault none deserved = absurd (none deserved.0.0 deserved.0.1)
+no_form words stream (ItemLimit session) none deserved = absurd (none deserved.0.0 deserved.0.1)
+no_form words stream (OctetLimit session) none deserved = absurd (none deserved.0.0 deserved.0.1)
 no_form words stream (BadSession code sub place) none deserved = absurd (none deserved.0.0 deserved.0.1)
 no_form words stream (Unsupported place) none deserved = absurd (none deserved.0.0 deserved.0.1)
 no_form words stream OutOfMemory none deserved = absurd (none deserved.0.0 deserved.0.1)
@@ -245,6 +265,8 @@ refused_fate stream (BadBook line kind) within refused = absurd refused
 refused_fate stream (TooLong object) within refused = absurd refused
 refused_fate stream (ReadFault object) within refused = absurd refused
 refused_fate stream WriteFault within refused = absurd refused
+refused_fate stream (ItemLimit session) within refused = absurd refused
+refused_fate stream (OctetLimit session) within refused = absurd refused
 refused_fate stream (BadSession code sub place) within refused = inl (record { short = within; comes = refused })
 refused_fate stream (Unsupported place) within refused = inl (record { short = within; comes = refused })
 refused_fate stream OutOfMemory within refused = inr refl

@@ -4,30 +4,23 @@ use Rattle.std.specs.List.{concat}
 use Rattle.std.specs.Io.KnownBytes.{Appends}
 use Rattle.std.proofs.lemmas.List.{take-append-drop, append-nil, map-append, take-map, take_more, take_all}
 use Rattle.std.proofs.lemmas.List.Folds.{concat-append}
-use Rattle.std.proofs.lemmas.Option.{slice_get_within, unwrap_or-slice_get}
+use Rattle.std.proofs.lemmas.Option.{slice_get-map, slice_get_within, unwrap_or-slice_get}
+use Rattle.std.specs.Prelude.{option_map}
 use Rattle.urpf_base.proofs.Growth.{Appends-append}
 use Rattle.report_text.specs.Lines.{run_line, publish_line, done_line}
 use Rattle.runbook.specs.declared.lines.BookLine.{BookLine}
-use Rattle.urpf_cli.specs.declared.run.Run.{Run}
+use Rattle.feed_io.specs.Events.{Event}
+use Rattle.control_core.specs.declared.control.Control.{Control}
 use Rattle.urpf_cli.specs.RunText.{Inputs, Position, opening, next_position, position_after, Gives, GiveAll, head_text}
 use Rattle.urpf_cli.specs.Running.{Stands, lines_in, GaveLine, GaveLineFront, Gave, GaveFront, WroteRun, WroteFront}
 
--- a write of the text of a line that failed took a front of it
-pub line_front : {E : Type 0} (r : Result (Unit {0}) E) (inputs : Inputs) (at : Position) (line : BookLine) (text : List ℕ) (old new : Option (List ℕ)) → Gives inputs at line text → OnErr r ((n : ℕ) × (n ≤ length text) × Appends old new (take n text)) → OnErr r (GaveLineFront inputs at line old new)
-line_front (Ok u) inputs at line text old new gives cut = tt
-line_front (Err e) inputs at line text old new gives cut = record {
-  octets = take cut.0 text;
-  front = inr (drop cut.0 text, rw (take-append-drop cut.0 text) gives);
-  appended = cut.2;
-}
-
 -- the texts of one line more
-give_more : (inputs : Inputs) (at : Position) (lines : List BookLine) (texts : List (List ℕ)) (line : BookLine) (text : List ℕ) → GiveAll inputs at lines texts → Gives inputs (position_after (length inputs.said) lines at) line text → GiveAll inputs at (lines ++ line ∷ []) (texts ++ text ∷ [])
+give_more : (inputs : Inputs) (at : Position) (lines : List BookLine) (texts : List (List ℕ)) (line : BookLine) (text : List ℕ) → GiveAll inputs at lines texts → Gives inputs (position_after (length inputs.items) lines at) line text → GiveAll inputs at (lines ++ line ∷ []) (texts ++ text ∷ [])
 give_more inputs at [] [] line text given gives = (gives, tt)
 give_more inputs at [] (t ∷ texts) line text given gives = absurd given
 give_more inputs at (l ∷ lines) [] line text given gives = absurd given
 give_more inputs at (l ∷ lines) (t ∷ texts) line text given gives =
-    (given.0, give_more inputs (next_position (length inputs.said) l at) lines texts line text given.1 gives)
+    (given.0, give_more inputs (next_position (length inputs.items) l at) lines texts line text given.1 gives)
 
 position_more : (total : ℕ) (lines : List BookLine) (line : BookLine) (at : Position) → position_after total (lines ++ line ∷ []) at ≡ next_position total line (position_after total lines at)
 position_more total [] line at = refl
@@ -42,13 +35,16 @@ line_more rows k row is =
     let more : take (k + 1) rows ≡ take k rows ++ row ∷ [] = take_more rows k row (slice_get_within rows k row is) ∙ ap (λ r. take k rows ++ r ∷ []) here in
     take-map (λ r. r.1) (k + 1) rows ∙ ap lines_in more ∙ map-append (λ r. r.1) (take k rows) (row ∷ []) ∙ ap (λ t. t ++ row.1 ∷ []) (sym (take-map (λ r. r.1) k rows))
 
+next_line : (rows : List (ℕ × BookLine)) (k : ℕ) (row : ℕ × BookLine) → slice_get rows k ≡ Some row → slice_get (lines_in rows) k ≡ Some row.1
+next_line rows k row is = slice_get-map (λ (r : ℕ × BookLine). r.1) rows k ∙ ap (option_map (λ (r : ℕ × BookLine). r.1)) is
+
 -- the position after one line more of the book
-pub stands_more : (inputs : Inputs) (rows : List (ℕ × BookLine)) (k : ℕ) (row : ℕ × BookLine) (run : Run) → slice_get rows k ≡ Some row → Stands inputs (next_position (length inputs.said) row.1 (position_after (length inputs.said) (take k (lines_in rows)) opening)) run → Stands inputs (position_after (length inputs.said) (take (k + 1) (lines_in rows)) opening) run
-stands_more inputs rows k row run is stands =
-    rw (line_more rows k row is, position_more (length inputs.said) (take k (lines_in rows)) row.1 opening) stands
+pub stands_more : (all : List Event) (inputs : Inputs) (rows : List (ℕ × BookLine)) (k : ℕ) (row : ℕ × BookLine) (control : Control) (left : Option (List Event)) → slice_get rows k ≡ Some row → Stands all inputs (next_position (length inputs.items) row.1 (position_after (length inputs.items) (take k (lines_in rows)) opening)) control left → Stands all inputs (position_after (length inputs.items) (take (k + 1) (lines_in rows)) opening) control left
+stands_more all inputs rows k row control left is stands =
+    rw (line_more rows k row is, position_more (length inputs.items) (take k (lines_in rows)) row.1 opening) stands
 
 -- what one line more of the book wrote
-pub gave_more : (inputs : Inputs) (rows : List (ℕ × BookLine)) (k : ℕ) (row : ℕ × BookLine) (old mid new : Option (List ℕ)) → slice_get rows k ≡ Some row → Gave inputs (take k (lines_in rows)) old mid → GaveLine inputs (position_after (length inputs.said) (take k (lines_in rows)) opening) row.1 mid new → Gave inputs (take (k + 1) (lines_in rows)) old new
+pub gave_more : (inputs : Inputs) (rows : List (ℕ × BookLine)) (k : ℕ) (row : ℕ × BookLine) (old mid new : Option (List ℕ)) → slice_get rows k ≡ Some row → Gave inputs (take k (lines_in rows)) old mid → GaveLine inputs (position_after (length inputs.items) (take k (lines_in rows)) opening) row.1 mid new → Gave inputs (take (k + 1) (lines_in rows)) old new
 gave_more inputs rows k row old mid new is before line = rw (line_more rows k row is) (record {
   texts = before.texts ++ line.text ∷ [];
   given = give_more inputs opening (take k (lines_in rows)) before.texts row.1 line.text before.given line.gives;
@@ -56,27 +52,18 @@ gave_more inputs rows k row old mid new is before line = rw (line_more rows k ro
 })
 
 -- what the lines before one that stopped wrote, and a front of what it would
-pub gave_stop : (inputs : Inputs) (rows : List (ℕ × BookLine)) (k : ℕ) (row : ℕ × BookLine) (old mid new : Option (List ℕ)) → slice_get rows k ≡ Some row → Gave inputs (take k (lines_in rows)) old mid → GaveLineFront inputs (position_after (length inputs.said) (take k (lines_in rows)) opening) row.1 mid new → GaveFront inputs (lines_in rows) old new
-gave_stop inputs rows k row old mid new is before stop = elim stop.front [
-  | inl none ↦ record {
-    count = k;
-    texts = before.texts;
-    given = before.given;
-    octets = concat before.texts ++ stop.octets;
-    more = [];
-    parts = rw none (simp (append-nil (concat before.texts)));
-    appended = Appends-append old mid new (concat before.texts) stop.octets before.appended stop.appended;
-  }
-  | inr some ↦ record {
-    count = k + 1;
-    texts = before.texts ++ (stop.octets ++ some.0) ∷ [];
-    given = rw (line_more rows k row is) (give_more inputs opening (take k (lines_in rows)) before.texts row.1 (stop.octets ++ some.0) before.given some.1);
-    octets = concat before.texts ++ stop.octets;
-    more = some.0;
-    parts = concat_more before.texts (stop.octets ++ some.0) ∙ sym (append_assoc (concat before.texts) stop.octets some.0);
-    appended = Appends-append old mid new (concat before.texts) stop.octets before.appended stop.appended;
-  }
-]
+pub gave_stop : (inputs : Inputs) (rows : List (ℕ × BookLine)) (k : ℕ) (row : ℕ × BookLine) (old mid new : Option (List ℕ)) → slice_get rows k ≡ Some row → Gave inputs (take k (lines_in rows)) old mid → GaveLineFront inputs (position_after (length inputs.items) (take k (lines_in rows)) opening) row.1 mid new → GaveFront inputs (lines_in rows) old new
+gave_stop inputs rows k row old mid new is before stop = record {
+  count = k;
+  texts = before.texts;
+  given = before.given;
+  last = stop.octets ++ stop.more;
+  is_last = record { line = row.1; is_next = next_line rows k row is; some = stop.some };
+  octets = concat before.texts ++ stop.octets;
+  more = stop.more;
+  parts = sym (append_assoc (concat before.texts) stop.octets stop.more);
+  appended = Appends-append old mid new (concat before.texts) stop.octets before.appended stop.appended;
+}
 
 Appends-nil : (held : Option (List ℕ)) → Appends held held []
 Appends-nil None = tt
@@ -90,7 +77,7 @@ gave_none inputs lines held = record { texts = []; given = tt; appended = Append
 pub head_front : (inputs : Inputs) (lines : List BookLine) (old new : Option (List ℕ)) → (octets : List ℕ) × (more : List ℕ) × (head_text ≡ octets ++ more) × Appends old new octets → WroteFront inputs lines old new
 head_front inputs lines old new (octets, more, parts, appended) = record {
   octets = octets;
-  is_front = record { count = 0; texts = []; given = tt; closing = []; last = inl refl; more = more; parts = append-nil head_text ∙ parts };
+  is_front = record { count = 0; texts = []; given = tt; last = []; is_last = inl refl; more = more; parts = append-nil head_text ∙ parts };
   appended = appended;
 }
 
@@ -102,10 +89,10 @@ lines_front inputs lines old mid new head cut = record {
     count = cut.count;
     texts = cut.texts;
     given = cut.given;
-    closing = [];
-    last = inl refl;
+    last = cut.last;
+    is_last = inr (inl cut.is_last);
     more = cut.more;
-    parts = ap (λ t. head_text ++ t) (append-nil (concat cut.texts) ∙ cut.parts) ∙ sym (append_assoc head_text cut.octets cut.more);
+    parts = ap (λ t. head_text ++ t) cut.parts ∙ sym (append_assoc head_text cut.octets cut.more);
   };
   appended = Appends-append old mid new head_text cut.octets head cut.appended;
 }
@@ -115,10 +102,10 @@ closing_is : (number at_number : ℕ) (text : List ℕ) → text ≡ done_line n
 closing_is number at_number text is same = is ∙ ap (λ n. done_line n 0) same
 
 -- the head, all lines, and the closing line
-pub closing_wrote : {E : Type 0} (r : Result (Unit {0}) E) (inputs : Inputs) (lines : List BookLine) (number : ℕ) (text : List ℕ) (old head mid new : Option (List ℕ)) → Appends old head head_text → Gave inputs lines head mid → text ≡ done_line number 0 → number ≡ (position_after (length inputs.said) lines opening).number → OnOk r (Appends mid new text) → OnOk r (WroteRun inputs lines old new)
+pub closing_wrote : {E : Type 0} (r : Result (Unit {0}) E) (inputs : Inputs) (lines : List BookLine) (number : ℕ) (text : List ℕ) (old head mid new : Option (List ℕ)) → Appends old head head_text → Gave inputs lines head mid → text ≡ done_line number 0 → number ≡ (position_after (length inputs.items) lines opening).number → OnOk r (Appends mid new text) → OnOk r (WroteRun inputs lines old new)
 closing_wrote (Err e) inputs lines number text old head mid new opened gave is same wrote = tt
 closing_wrote (Ok u) inputs lines number text old head mid new opened gave is same wrote =
-    let at_number = (position_after (length inputs.said) lines opening).number in
+    let at_number = (position_after (length inputs.items) lines opening).number in
     let closing = closing_is number at_number text is same in
     record {
       text = head_text ++ (concat gave.texts ++ text);
@@ -126,10 +113,10 @@ closing_wrote (Ok u) inputs lines number text old head mid new opened gave is sa
       appended = Appends-append old head new head_text (concat gave.texts ++ text) opened (Appends-append head mid new (concat gave.texts) text gave.appended wrote);
     }
 
-pub closing_front : {E : Type 0} (r : Result (Unit {0}) E) (inputs : Inputs) (lines : List BookLine) (number : ℕ) (text : List ℕ) (old head mid new : Option (List ℕ)) → Appends old head head_text → Gave inputs lines head mid → text ≡ done_line number 0 → number ≡ (position_after (length inputs.said) lines opening).number → OnErr r ((n : ℕ) × (n ≤ length text) × Appends mid new (take n text)) → OnErr r (WroteFront inputs lines old new)
+pub closing_front : {E : Type 0} (r : Result (Unit {0}) E) (inputs : Inputs) (lines : List BookLine) (number : ℕ) (text : List ℕ) (old head mid new : Option (List ℕ)) → Appends old head head_text → Gave inputs lines head mid → text ≡ done_line number 0 → number ≡ (position_after (length inputs.items) lines opening).number → OnErr r ((n : ℕ) × (n ≤ length text) × Appends mid new (take n text)) → OnErr r (WroteFront inputs lines old new)
 closing_front (Ok u) inputs lines number text old head mid new opened gave is same cut = tt
 closing_front (Err e) inputs lines number text old head mid new opened gave is same cut =
-    let at_number = (position_after (length inputs.said) lines opening).number in
+    let at_number = (position_after (length inputs.items) lines opening).number in
     let front = concat gave.texts ++ take cut.0 text in
     record {
       octets = head_text ++ front;
@@ -137,8 +124,8 @@ closing_front (Err e) inputs lines number text old head mid new opened gave is s
         count = length lines;
         texts = gave.texts;
         given = rw (take_all (length lines) lines (omega arith)) gave.given;
-        closing = text;
-        last = inr (omega arith, closing_is number at_number text is same);
+        last = text;
+        is_last = inr (inr (omega arith, closing_is number at_number text is same));
         more = drop cut.0 text;
         parts = ap (λ t. head_text ++ (concat gave.texts ++ t)) (sym (take-append-drop cut.0 text)) ∙ ap (λ t. head_text ++ t) (sym (append_assoc (concat gave.texts) (take cut.0 text) (drop cut.0 text))) ∙ sym (append_assoc head_text front (drop cut.0 text));
       };

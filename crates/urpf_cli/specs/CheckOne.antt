@@ -12,8 +12,9 @@ use Rattle.urpf_cli.specs.declared.session.SessionFault.{SessionFault}
 use Rattle.urpf_cli.specs.declared.session.SessionFault.TheVariants.{Header, Update, Strange}
 use Rattle.urpf_cli.specs.declared.session.SessionFault.TheVariants as fault
 use Rattle.urpf_cli.specs.declared.status.Object.TheVariants.{Book, Stream}
+use Rattle.urpf_cli.specs.declared.status.Object.TheVariants as named
 use Rattle.urpf_cli.specs.declared.status.Status.{Status}
-use Rattle.urpf_cli.specs.declared.status.Status.TheVariants.{Done, Usage, BadBook, TooLong, ReadFault, WriteFault, BadSession, Unsupported, OutOfMemory}
+use Rattle.urpf_cli.specs.declared.status.Status.TheVariants.{Done, Usage, BadBook, TooLong, ReadFault, WriteFault, ItemLimit, OctetLimit, BadSession, Unsupported, OutOfMemory}
 
 -- the words are `check`, the name of a session and the text of the source
 pub record AreWords (words : List (List ℕ)) (source : Addr) : Type 0 where
@@ -46,8 +47,11 @@ Fate stream Usage = ⊥
 Fate stream (BadBook line kind) = ⊥
 Fate stream (TooLong Book) = ⊥
 Fate stream (TooLong Stream) = 16777216 < length stream
+Fate stream (TooLong (named.Session session)) = ⊥
 Fate stream (ReadFault object) = ⊥
 Fate stream WriteFault = ⊥
+Fate stream (ItemLimit session) = ⊥
+Fate stream (OctetLimit session) = ⊥
 Fate stream (BadSession code sub place) = Within stream (IsBadAt stream code sub place)
 Fate stream (Unsupported place) = Within stream (IsStrangeAt stream place)
 Fate stream OutOfMemory = ⊥
@@ -98,9 +102,13 @@ IsQuiet Done = ⊥
 IsQuiet WriteFault = ⊥
 IsQuiet status = Unit {0}
 
--- a status that names a runbook, which `check` does not read
-abbrev pub NamesBook : Status → Type 0
-NamesBook (BadBook line kind) = Unit {0}
-NamesBook (TooLong Book) = Unit {0}
-NamesBook (ReadFault Book) = Unit {0}
-NamesBook status = ⊥
+-- a status that names a runbook or a feed, which `check` does not read
+abbrev pub NamesRun : Status → Type 0
+NamesRun (BadBook line kind) = Unit {0}
+NamesRun (TooLong Book) = Unit {0}
+NamesRun (ReadFault Book) = Unit {0}
+NamesRun (TooLong (named.Session session)) = Unit {0}
+NamesRun (ReadFault (named.Session session)) = Unit {0}
+NamesRun (ItemLimit session) = Unit {0}
+NamesRun (OctetLimit session) = Unit {0}
+NamesRun status = ⊥

@@ -4,13 +4,15 @@ use Rattle.runbook.specs.declared.lines.BookKind.{BookKind}
 use Rattle.runbook.specs.declared.lines.BookKind.TheVariants.{Syntax, Session, Iface}
 use Rattle.urpf_cli.specs.declared.status.Object.{Object}
 use Rattle.urpf_cli.specs.declared.status.Object.TheVariants.{Book, Stream}
+use Rattle.urpf_cli.specs.declared.status.Object.TheVariants as named
 use Rattle.urpf_cli.specs.declared.status.Status.{Status}
-use Rattle.urpf_cli.specs.declared.status.Status.TheVariants.{Done, Usage, BadBook, TooLong, ReadFault, WriteFault, BadSession, Unsupported, OutOfMemory}
+use Rattle.urpf_cli.specs.declared.status.Status.TheVariants.{Done, Usage, BadBook, TooLong, ReadFault, WriteFault, ItemLimit, OctetLimit, BadSession, Unsupported, OutOfMemory}
 
 -- what an object is called
 abbrev pub object_text : Object → List ℕ
 object_text Book = codes "book"
 object_text Stream = codes "stream"
+object_text (named.Session session) = codes "session " ++ decimal session
 
 -- what a fault of a runbook is called
 abbrev pub kind_text : BookKind → List ℕ
@@ -26,6 +28,8 @@ status_text (BadBook line kind) = codes "book line " ++ decimal line ++ codes " 
 status_text (TooLong object) = object_text object ++ codes " too long"
 status_text (ReadFault object) = codes "read fault on " ++ object_text object
 status_text WriteFault = codes "write fault"
+status_text (ItemLimit session) = codes "session " ++ decimal session ++ codes " at item limit"
+status_text (OctetLimit session) = codes "session " ++ decimal session ++ codes " at octet limit"
 status_text (BadSession code sub place) = codes "message " ++ decimal place ++ codes " fault " ++ decimal code ++ codes " " ++ decimal sub
 status_text (Unsupported place) = codes "message " ++ decimal place ++ codes " not supported"
 status_text OutOfMemory = codes "out of memory"
@@ -43,6 +47,8 @@ exit_of (BadBook line kind) = 4
 exit_of (TooLong object) = 7
 exit_of (ReadFault object) = 8
 exit_of WriteFault = 9
+exit_of (ItemLimit session) = 11
+exit_of (OctetLimit session) = 11
 exit_of (BadSession code sub place) = 13
 exit_of (Unsupported place) = 14
 exit_of OutOfMemory = 16

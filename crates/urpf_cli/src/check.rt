@@ -1,4 +1,5 @@
-//! `check SESSION SOURCE`: whether the routes that a recorded session leaves admit a source.
+//! `check SESSION SOURCE`: words, a recorded session and a sink come in. The line that says whether
+//! the session's routes admit the source goes to the sink, and how the command ended goes out.
 ghost use Rattle.std.specs.Prelude.{None, ◌≡◌, ◌↔◌, ◌<◌, ◌≤◌, ◌⊎◌, [], ℕ, length, take};
 ghost use Rattle.std.specs.Prelude.{IfErr, IfSome, IsSomeAnd, OnOk, map, string_bytes};
 ghost use Rattle.std.specs.Io.KnownBytes.{Appends};
@@ -7,7 +8,7 @@ ghost use Rattle.urpf_base.specs.Faults.{Rose};
 ghost use Rattle.adj_rib.specs.Routes.{routes_at};
 ghost use Rattle.control_core.specs.Table.{HoldsRoutes};
 ghost use Rattle.urpf_cli.specs.declared.status.Status.{Status};
-ghost use Rattle.urpf_cli.specs.CheckOne.{Deserves, FitNoForm, IsCheckLine, IsQuiet, IsRefused, NamesBook, Within, status_of_fault, WritesFront, WritesLine};
+ghost use Rattle.urpf_cli.specs.CheckOne.{Deserves, FitNoForm, IsCheckLine, IsQuiet, IsRefused, NamesRun, Within, status_of_fault, WritesFront, WritesLine};
 ghost use Rattle.urpf_cli.specs.Session.{IsBadAt, IsStrangeAt, updates_of};
 
 use crate::session::{MESSAGE_HEADER_ERROR, SessionFault, UPDATE_MESSAGE_ERROR, read_session};
@@ -46,7 +47,7 @@ pub fn check_one<S: Source, K: Sink>(
         → IfSome (S.left session.old) (λ stream. Within stream (IsBadAt stream code sub place)) }
     ensures unsupported { (place : ℕ) → result ≡ Status.Unsupported place
         → IfSome (S.left session.old) (λ stream. Within stream (IsStrangeAt stream place)) }
-    ensures no_book { NamesBook result → ⊥ }
+    ensures no_book { NamesRun result → ⊥ }
 
     // Where nothing fails, the answer is the one that the words and the stream deserve.
     ensures exact { (status : Status)

@@ -1,11 +1,9 @@
-//! The commands of the router, each as one call that is lent its words, sources and sink.
+//! The commands of the router, each as one call that is lent its words, sources, feed and sink.
 #![tactic(auto)]
 
-mod adapters;
 mod check;
 mod laws;
 mod offline;
-mod run;
 mod session;
 mod status;
 mod status_text;
@@ -13,10 +11,9 @@ mod steps;
 mod whole;
 mod words;
 
-pub use adapters::{FileSource, OutSink};
 pub use check::{STREAM_OCTETS, check_one};
 pub use laws::{assigned_numbers, one_run_text};
-pub use offline::{BOOK_OCTETS, offline_stream};
+pub use offline::{BOOK_OCTETS, offline_feed};
 pub use status::{Object, Status};
 pub use status_text::{exit_code, put_status};
 

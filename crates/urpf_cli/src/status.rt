@@ -9,6 +9,8 @@ pub enum Object {
     Book,
     /// The stream of one session.
     Stream,
+    /// The feed of the session of this number.
+    Session(u32),
 }
 
 /// The answer of a command.
@@ -26,6 +28,11 @@ pub enum Status {
     ReadFault(Object),
     /// A write failed.
     WriteFault,
+    /// The session of this number has as many items as the limit, and another was asked for.
+    ItemLimit { session: u32 },
+    /// The feed of the session of this number gave as many octets as the limit, and another event
+    /// was asked for.
+    OctetLimit { session: u32 },
     /// The message at this place, counted from 1, has this error code and subcode
     /// (RFC 4271, section 6).
     BadSession { code: u8, sub: u8, place: u64 },

@@ -1,4 +1,5 @@
-//! What a status says on standard error, and the number that the program ends with.
+//! A status comes in, and what it says on standard error goes out, and the number that the program
+//! ends with.
 ghost use Rattle.std.specs.Prelude.{◌≡◌, ◌+◌, ◌≤◌, [], ◌++◌, length, codes, decimal};
 ghost use Rattle.urpf_cli.specs.StatusText.{exit_of, kind_text, object_text, status_line, status_text};
 
@@ -35,6 +36,8 @@ pub fn exit_code(status: &Status) -> u8
         Status::TooLong(_) => 7,
         Status::ReadFault(_) => 8,
         Status::WriteFault => 9,
+        Status::ItemLimit { .. } => 11,
+        Status::OctetLimit { .. } => 11,
         Status::BadSession { .. } => 13,
         Status::Unsupported { .. } => 14,
         Status::OutOfMemory => 16,
@@ -59,6 +62,8 @@ fn put_text(status: &Status, to: &mut Line)
             put_object(*object, to);
         }
         Status::WriteFault => to.push(b"write fault"),
+        Status::ItemLimit { session } => put_item_limit(*session, to),
+        Status::OctetLimit { session } => put_octet_limit(*session, to),
         Status::BadSession { code, sub, place } => put_bad_session(*code, *sub, *place, to),
         Status::Unsupported { place } => put_unsupported(*place, to),
         Status::OutOfMemory => to.push(b"out of memory"),
@@ -66,14 +71,25 @@ fn put_text(status: &Status, to: &mut Line)
 }
 
 fn put_object(object: Object, to: &mut Line)
-    requires { length to.old + 64 ≤ 8192 }
+    requires { length to.old + 128 ≤ 8192 }
     ensures text { to.new ≡ to.old ++ object_text object }
     ensures short { length to.new ≤ length to.old + 32 }
 {
     match object {
         Object::Book => to.push(b"book"),
         Object::Stream => to.push(b"stream"),
+        Object::Session(session) => put_session(session, to),
     }
+}
+
+/// Appends the session that is named by its number.
+fn put_session(session: u32, to: &mut Line)
+    requires { length to.old + 128 ≤ 8192 }
+    ensures text { to.new ≡ to.old ++ codes "session " ++ decimal session }
+    ensures short { length to.new ≤ length to.old + 32 }
+{
+    to.push(b"session ");
+    put_number(u64::from(session), to);
 }
 
 fn put_bad_book(line: u32, kind: BookKind, to: &mut Line)
@@ -128,4 +144,22 @@ fn put_unsupported(place: u64, to: &mut Line)
 {
     put_message(place, to);
     to.push(b" not supported");
+}
+
+fn put_item_limit(session: u32, to: &mut Line)
+    requires { length to.old + 512 ≤ 8192 }
+    ensures text { to.new ≡ to.old ++ status_text (Status.ItemLimit session) }
+    ensures short { length to.new ≤ length to.old + 128 }
+{
+    put_session(session, to);
+    to.push(b" at item limit");
+}
+
+fn put_octet_limit(session: u32, to: &mut Line)
+    requires { length to.old + 512 ≤ 8192 }
+    ensures text { to.new ≡ to.old ++ status_text (Status.OctetLimit session) }
+    ensures short { length to.new ≤ length to.old + 128 }
+{
+    put_session(session, to);
+    to.push(b" at octet limit");
 }

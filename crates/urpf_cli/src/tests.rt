@@ -1,7 +1,12 @@
 //! What no clause says: worked streams with their lines, worked runs with their texts, and that calls
 //! succeed where memory is ample.
 mod checking;
+mod events;
+mod faults;
+mod header_faults;
+mod hold_times;
 mod octets;
+mod resets;
 mod running;
 mod telling;
 

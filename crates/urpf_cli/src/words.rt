@@ -1,4 +1,5 @@
-//! The words of a command line, after the program's name.
+//! The words of a command line, after the program's name: they come in, and what they ask for goes
+//! out, if they fit a form.
 ghost use Rattle.std.specs.Prelude.{◌≡◌, ◌↔◌, IfSome, IsTrue, Some, map, string_bytes};
 ghost use Rattle.urpf_base.specs.declared.address.Addr.{Addr};
 ghost use Rattle.urpf_cli.specs.CheckOne.{AreWords};
@@ -25,11 +26,11 @@ pub fn check_source(words: &[String]) -> Option<Addr>
     Some(addr)
 }
 
-/// Whether the words are those of `offline BOOK STREAM`.
+/// Whether the words are those of `offline BOOK TRACE`.
 pub fn are_offline(words: &[String]) -> bool
     ensures { IsTrue result ↔ AreOfflineWords (map string_bytes words.now) }
 {
-    let [command, _book, _stream] = words else {
+    let [command, _book, _trace] = words else {
         return false;
     };
     if command.as_str() != "offline" {

@@ -5,9 +5,9 @@ use crate::tests::octets::{
     NO_ORIGIN, NOTIFICATION, OPEN, USUAL, WITHDRAW,
 };
 use crate::{Object, STREAM_OCTETS, Status, check_one};
+use feed_io::{MemSink, MemSource, SureSink, SureSource};
 use std::alloc::Global;
 use std::test::Fail;
-use urpf_base::{MemSink, MemSource, SureSink, SureSource};
 
 /// The status of `check session SOURCE` over the stream, and what it writes.
 fn check(alloc: Global, stream: &[u8], source: &str) -> Result<(Status, Vec<u8>), Fail> {

@@ -1,170 +1,196 @@
-//! `offline` over worked runbooks and streams: the texts, and what is refused.
+//! `offline` over worked runbooks and sessions: the texts, whatever way the octets come in.
+use crate::tests::events::{Event, is_run, is_run_over, sure_feed};
 use crate::tests::joined;
-use crate::tests::octets::{ANNOUNCE, NO_ORIGIN, OPEN, WITHDRAW};
-use crate::{BOOK_OCTETS, Object, STREAM_OCTETS, Status, offline_stream};
-use runbook::BookKind;
+use crate::tests::octets::{
+    ANNOUNCE, END_OF_RIB, END_OF_RIB_IPV6, KEEPALIVE, OPEN, USUAL, WITHDRAW,
+};
 use std::alloc::Global;
 use std::test::Fail;
-use urpf_base::{MemSink, MemSource, SureSink, SureSource};
 
-/// The status of `offline book stream` over these, and what it writes. These writes fail, by their
-/// numbers from 1.
-fn offline(
-    alloc: Global,
-    book: &str,
-    stream: &[u8],
-    writes: &[u64],
-) -> Result<(Status, Vec<u8>), Fail> {
-    let words = offline_words(alloc)?;
-    let mut book = MemSource::new(Vec::from_slice(alloc, book.as_bytes())?, Vec::new(alloc));
-    let mut stream = MemSource::new(Vec::from_slice(alloc, stream)?, Vec::new(alloc));
-    let mut out = MemSink::new(
-        Vec::with_capacity(alloc, 8192)?,
-        Vec::from_slice(alloc, writes)?,
-    );
-    let status = offline_stream(alloc, &words, &mut book, &mut stream, &mut out);
-    Ok((status, Vec::from_slice(alloc, out.held())?))
-}
-
-/// The words of a run.
-fn offline_words(alloc: Global) -> Result<Vec<String>, Fail> {
-    Ok(vec![in alloc;
-        String::from_str(alloc, "offline")?,
-        String::from_str(alloc, "book")?,
-        String::from_str(alloc, "stream")?,
-    ]?)
-}
+/// A session up to its first route.
+pub const FULL: [Event<'static>; 4] = [
+    Event::Up,
+    Event::Octets(&OPEN),
+    Event::Octets(&KEEPALIVE),
+    Event::Octets(&ANNOUNCE),
+];
 
 /// Takes all, publishes, and checks a source that is covered and one that is not.
-const ALL_AT_ONCE: &str = "pull 0 all\npublish\ncheck 0 198.51.100.9\ncheck 0 198.51.101.0\n";
+pub const ALL_AT_ONCE: &str = "pull 0 all\npublish\ncheck 0 198.51.100.9\ncheck 0 198.51.101.0\n";
+
+/// What these say after the head of the run.
+pub const FULL_TEXT: &str = "end 0 items 4 rest 0\n\
+    publish 1 edits 0 cells 1 items 4\n\
+    check 0 198.51.100.9 pass 1\n\
+    check 0 198.51.101.0 drop 1\n\
+    done publications 1 packets 0\n";
 
 #[test]
-fn a_run_writes_its_whole_text(rt: HostRuntime) -> Result<(), Fail> {
-    let alloc = rt.alloc();
-    let (status, text) = offline(alloc, ALL_AT_ONCE, &ANNOUNCE, &[])?;
-    assert_eq!(rt; status, Status::Done);
-    let wanted = "run interfaces 1 sessions 1 pairs 0 skipped 0\n\
-        publish 0 edits 0 cells 0 items 0\n\
-        end 0 items 1 rest 0\n\
-        publish 1 edits 0 cells 1 items 1\n\
+fn without_events_no_source_passes(rt: HostRuntime) -> Result<(), Fail> {
+    let book = "publish\ncheck 0 198.51.100.9\n";
+    let text = "publish 1 edits 0 cells 0 items 0\n\
+        check 0 198.51.100.9 drop 1\n\
+        done publications 1 packets 0\n";
+    is_run_over(&rt, "no pull", book, &[], text)?;
+    let text = "end 0 items 0 rest 0\n\
+        publish 1 edits 0 cells 0 items 0\n\
+        check 0 198.51.100.9 drop 1\n\
+        check 0 198.51.101.0 drop 1\n\
+        done publications 1 packets 0\n";
+    is_run_over(&rt, "a pull", ALL_AT_ONCE, &[], text)
+}
+
+#[test]
+fn a_full_session_writes_its_whole_text(rt: HostRuntime) -> Result<(), Fail> {
+    is_run_over(&rt, "a full session", ALL_AT_ONCE, &FULL, FULL_TEXT)
+}
+
+#[test]
+fn seconds_within_the_hold_time_are_items(rt: HostRuntime) -> Result<(), Fail> {
+    let events = [
+        Event::Up,
+        Event::Octets(&OPEN),
+        Event::Octets(&KEEPALIVE),
+        Event::Octets(&ANNOUNCE),
+        Event::Elapsed(2),
+        Event::Octets(&KEEPALIVE),
+        Event::Elapsed(2),
+        Event::Elapsed(1),
+    ];
+    let text = "end 0 items 8 rest 0\n\
+        publish 1 edits 0 cells 1 items 8\n\
         check 0 198.51.100.9 pass 1\n\
         check 0 198.51.101.0 drop 1\n\
         done publications 1 packets 0\n";
-    assert_eq!(rt; text.as_slice(), wanted.as_bytes());
-    Ok(())
+    is_run_over(&rt, "a KEEPALIVE in time", ALL_AT_ONCE, &events, text)
+}
+
+#[test]
+fn a_cut_transport_ends_the_session_and_drops_what_was_left(rt: HostRuntime) -> Result<(), Fail> {
+    let events = [
+        Event::Up,
+        Event::Octets(&OPEN),
+        Event::Octets(&KEEPALIVE),
+        Event::Octets(&ANNOUNCE[..30]),
+        Event::Down,
+        Event::Up,
+        Event::Octets(&ANNOUNCE[30..]),
+    ];
+    let text = "reset 0 item 4 closed\n\
+        end 0 items 5 rest 17\n\
+        publish 1 edits 0 cells 0 items 5\n\
+        done publications 1 packets 0\n";
+    is_run_over(&rt, "a cut UPDATE", "pull 0 all\npublish\n", &events, text)
+}
+
+/// Up, and the messages octet by octet. Where seconds are asked for, one passes behind so many octets.
+fn octet_by_octet<'a>(
+    alloc: Global,
+    stream: &'a [u8],
+    second: Option<usize>,
+) -> Result<Vec<Event<'a>>, Fail> {
+    let mut events = Vec::new(alloc);
+    events.push(Event::Up)?;
+    for (place, octet) in stream.chunks(1).enumerate() {
+        if second == Some(place) {
+            events.push(Event::Elapsed(1))?;
+        }
+        events.push(Event::Octets(octet))?;
+    }
+    Ok(events)
+}
+
+#[test]
+fn octets_one_by_one_write_the_same_text(rt: HostRuntime) -> Result<(), Fail> {
+    let alloc = rt.alloc();
+    let stream = joined(alloc, &[&OPEN, &KEEPALIVE, &ANNOUNCE])?;
+    let events = octet_by_octet(alloc, &stream, None)?;
+    is_run_over(&rt, "octet by octet", ALL_AT_ONCE, &events, FULL_TEXT)?;
+    // The OPEN and the KEEPALIVE have 56 octets, and the second passes behind the 20th of the UPDATE.
+    let events = octet_by_octet(alloc, &stream, Some(76))?;
+    let text = "end 0 items 5 rest 0\n\
+        publish 1 edits 0 cells 1 items 5\n\
+        check 0 198.51.100.9 pass 1\n\
+        check 0 198.51.101.0 drop 1\n\
+        done publications 1 packets 0\n";
+    is_run_over(&rt, "a second within a message", ALL_AT_ONCE, &events, text)
+}
+
+#[test]
+fn a_cut_at_any_place_writes_the_same_text(rt: HostRuntime) -> Result<(), Fail> {
+    let alloc = rt.alloc();
+    let stream = joined(alloc, &[&OPEN, &KEEPALIVE, &ANNOUNCE])?;
+    for place in 1..stream.len() {
+        let (front, back) = stream.split_at(place);
+        let events = [Event::Up, Event::Octets(front), Event::Octets(back)];
+        let name = format!(in alloc; "a cut behind octet {place}")?;
+        is_run_over(&rt, name.as_str(), ALL_AT_ONCE, &events, FULL_TEXT)?;
+    }
+    let events = [Event::Up, Event::Octets(&stream)];
+    is_run_over(&rt, "no cut", ALL_AT_ONCE, &events, FULL_TEXT)
 }
 
 #[test]
 fn a_source_is_judged_by_the_last_publication(rt: HostRuntime) -> Result<(), Fail> {
-    let alloc = rt.alloc();
-    let stream = joined(alloc, &[&ANNOUNCE, &WITHDRAW])?;
-    let book = "pull 0 1\npublish\npull 0 1\ncheck 0 198.51.100.9\npublish\n\
+    let events = [
+        Event::Up,
+        Event::Octets(&OPEN),
+        Event::Octets(&KEEPALIVE),
+        Event::Octets(&ANNOUNCE),
+        Event::Octets(&WITHDRAW),
+    ];
+    let book = "pull 0 4\npublish\npull 0 1\ncheck 0 198.51.100.9\npublish\n\
         check 0 198.51.100.9\n";
-    let (status, text) = offline(alloc, book, &stream, &[])?;
-    assert_eq!(rt; status, Status::Done);
-    let wanted = "run interfaces 1 sessions 1 pairs 0 skipped 0\n\
-        publish 0 edits 0 cells 0 items 0\n\
-        publish 1 edits 0 cells 1 items 1\n\
+    let text = "publish 1 edits 0 cells 1 items 4\n\
         check 0 198.51.100.9 pass 1\n\
-        publish 2 edits 0 cells 1 items 2\n\
+        publish 2 edits 0 cells 1 items 5\n\
         check 0 198.51.100.9 drop 2\n\
         done publications 2 packets 0\n";
-    assert_eq!(rt; text.as_slice(), wanted.as_bytes());
-    Ok(())
+    is_run(
+        &rt,
+        "a withdrawal",
+        book,
+        &mut sure_feed(rt.alloc(), &events)?,
+        text,
+    )
 }
 
 #[test]
-fn a_run_that_is_refused_writes_nothing(rt: HostRuntime) -> Result<(), Fail> {
-    let alloc = rt.alloc();
-    let bad = joined(alloc, &[&ANNOUNCE, &NO_ORIGIN])?;
-    let cases: [(&str, &[u8], Status); 5] = [
-        (
-            "pull 0 all\npublish now\npull 1 all\n",
-            bad.as_slice(),
-            Status::BadBook {
-                line: 2,
-                kind: BookKind::Syntax,
-            },
-        ),
-        (
-            "pull 1 all\n",
-            &ANNOUNCE,
-            Status::BadBook {
-                line: 1,
-                kind: BookKind::Session,
-            },
-        ),
-        (
-            "publish\n\ncheck 1 198.51.100.9\n",
-            &ANNOUNCE,
-            Status::BadBook {
-                line: 3,
-                kind: BookKind::Iface,
-            },
-        ),
-        (
-            ALL_AT_ONCE,
-            bad.as_slice(),
-            Status::BadSession {
-                code: 3,
-                sub: 3,
-                place: 2,
-            },
-        ),
-        (ALL_AT_ONCE, &OPEN, Status::Unsupported { place: 1 }),
+fn the_end_is_told_once(rt: HostRuntime) -> Result<(), Fail> {
+    let book = "pull 0 0\npull 0 4\npublish\npull 0 1\npull 0 all\npublish\n";
+    let text = "publish 1 edits 0 cells 1 items 4\n\
+        end 0 items 4 rest 0\n\
+        publish 2 edits 0 cells 0 items 4\n\
+        done publications 2 packets 0\n";
+    is_run(
+        &rt,
+        "two pulls",
+        book,
+        &mut sure_feed(rt.alloc(), &FULL)?,
+        text,
+    )
+}
+
+#[test]
+fn what_a_usual_speaker_sends_is_read(rt: HostRuntime) -> Result<(), Fail> {
+    let events = [
+        Event::Up,
+        Event::Octets(&OPEN),
+        Event::Octets(&KEEPALIVE),
+        Event::Octets(&USUAL),
+        Event::Octets(&END_OF_RIB),
+        Event::Octets(&END_OF_RIB_IPV6),
+        Event::Octets(&KEEPALIVE),
+        Event::Down,
     ];
-    for (book, stream, wanted) in cases {
-        let (status, text) = offline(alloc, book, stream, &[])?;
-        assert_eq!(rt; status, wanted, "of {book}");
-        assert_eq!(rt; text.len(), 0, "of {book}");
-    }
-    Ok(())
-}
-
-#[test]
-fn a_sink_that_fails_in_a_run_has_a_front_of_the_text(rt: HostRuntime) -> Result<(), Fail> {
-    let alloc = rt.alloc();
-    let (status, text) = offline(alloc, ALL_AT_ONCE, &ANNOUNCE, &[4])?;
-    assert_eq!(rt; status, Status::WriteFault);
-    let wanted = "run interfaces 1 sessions 1 pairs 0 skipped 0\n\
-        publish 0 edits 0 cells 0 items 0\n\
-        end 0 items 1 rest 0\n";
-    assert_eq!(rt; text.as_slice(), wanted.as_bytes());
-    Ok(())
-}
-
-#[test]
-fn a_book_or_a_stream_past_its_limit_is_too_long(rt: HostRuntime) -> Result<(), Fail> {
-    let alloc = rt.alloc();
-    let words = offline_words(alloc)?;
-    let mut book = SureSource::new(vec![in alloc; 0; BOOK_OCTETS + 1]?);
-    let mut stream = SureSource::new(Vec::new(alloc));
-    let status = offline_stream(alloc, &words, &mut book, &mut stream, &mut SureSink::new());
-    assert_eq!(rt; status, Status::TooLong(Object::Book));
-    let mut book = SureSource::new(Vec::new(alloc));
-    let mut stream = SureSource::new(vec![in alloc; 0; STREAM_OCTETS + 1]?);
-    let status = offline_stream(alloc, &words, &mut book, &mut stream, &mut SureSink::new());
-    assert_eq!(rt; status, Status::TooLong(Object::Stream));
-    Ok(())
-}
-
-#[test]
-fn a_failed_read_of_the_book_or_the_stream_is_told(rt: HostRuntime) -> Result<(), Fail> {
-    let alloc = rt.alloc();
-    let words = offline_words(alloc)?;
-    let cases: [(&[u64], &[u64], Object); 2] = [
-        (&[1], &[1], Object::Book),
-        (&[], &[1], Object::Stream),
-    ];
-    for (book_fails, stream_fails, object) in cases {
-        let mut book = MemSource::new(Vec::new(alloc), Vec::from_slice(alloc, book_fails)?);
-        let mut stream = MemSource::new(Vec::new(alloc), Vec::from_slice(alloc, stream_fails)?);
-        let status = offline_stream(alloc, &words, &mut book, &mut stream, &mut SureSink::new());
-        assert_eq!(rt; status, Status::ReadFault(object));
-    }
-    let mut book = MemSource::new(Vec::new(alloc), Vec::new(alloc));
-    let mut stream = MemSource::new(Vec::new(alloc), Vec::new(alloc));
-    let status = offline_stream(alloc, &[], &mut book, &mut stream, &mut SureSink::new());
-    assert_eq!(rt; status, Status::Usage);
-    Ok(())
+    let book = "pull 0 7\npublish\ncheck 0 198.51.100.9\npull 0 all\npublish\n\
+        check 0 198.51.100.9\n";
+    let text = "publish 1 edits 0 cells 1 items 7\n\
+        check 0 198.51.100.9 pass 1\n\
+        reset 0 item 8 closed\n\
+        end 0 items 8 rest 0\n\
+        publish 2 edits 0 cells 1 items 8\n\
+        check 0 198.51.100.9 drop 2\n\
+        done publications 2 packets 0\n";
+    is_run_over(&rt, "End-of-RIB", book, &events, text)
 }

@@ -1,10 +1,8 @@
-//! What a status says, and the adapters over real files.
-use crate::{FileSource, Object, OutSink, Status, put_status};
+//! What a status says.
+use crate::{Object, Status, put_status};
 use runbook::BookKind;
-use std::fs;
 use std::process::Abort;
-use std::test::Fail;
-use urpf_base::{Line, read_text, write_all};
+use urpf_base::Line;
 
 /// That the status is told so.
 fn is_told(rt: &impl Abort, status: Status, wanted: &str) {
@@ -32,7 +30,24 @@ fn each_status_has_its_text(rt: HostRuntime) {
         Status::ReadFault(Object::Stream),
         "urpf: read fault on stream\n",
     );
+    is_told(
+        &rt,
+        Status::ReadFault(Object::Session(0)),
+        "urpf: read fault on session 0\n",
+    );
     is_told(&rt, Status::WriteFault, "urpf: write fault\n");
+    is_told(
+        &rt,
+        Status::ItemLimit { session: 0 },
+        "urpf: session 0 at item limit\n",
+    );
+    is_told(
+        &rt,
+        Status::OctetLimit {
+            session: 4_294_967_295,
+        },
+        "urpf: session 4294967295 at octet limit\n",
+    );
     let fault = Status::BadSession {
         code: 1,
         sub: 2,
@@ -45,17 +60,4 @@ fn each_status_has_its_text(rt: HostRuntime) {
         "urpf: message 4 not supported\n",
     );
     is_told(&rt, Status::OutOfMemory, "urpf: out of memory\n");
-}
-
-#[test]
-fn the_adapters_read_and_write_a_file(rt: HostRuntime) -> Result<(), Fail> {
-    let alloc = rt.alloc();
-    let mut sink = OutSink::new(fs::create(&rt, "written")?);
-    assert_eq!(rt; write_all(&mut sink, b"some octets"), Ok(()));
-    drop(sink);
-    let text = read_text(alloc, &mut FileSource::new(&rt, "written"), 100)?;
-    assert_eq!(rt; text.as_slice(), b"some octets".as_slice());
-    let missing = read_text(alloc, &mut FileSource::new(&rt, "missing"), 100);
-    assert!(rt; missing.is_err());
-    Ok(())
 }

@@ -1,7 +1,13 @@
-use Rattle.urpf_cli.specs.Running.{inputs_of}
-use Rattle.urpf_cli.proofs.Runs.{line_front}
 use Rattle.urpf_cli.proofs.steps.take_line.Goals as goal
 
-pub returns-in-Ok-clause-front : goal.returns-in-Ok-clause-front
-returns-in-Ok-clause-front g c = λ at stands.
-    line_front c.offer.result (inputs_of c.args.session.now) at c.args.line.now c.perform.new.text (g.K.Sink.held c.args.out.now) (g.K.Sink.held c.offer.new.out) (c.in-Ok.ensures.gives at stands) c.offer.ensures.cut_short
+pub returns-in-Publish-clause-gave : goal.returns-in-Publish-clause-gave
+returns-in-Publish-clause-gave g c = λ inputs all at informs stands. rw c.in-Publish.is (c.publish.ensures.gave inputs all at _ informs stands)
+
+pub returns-in-Publish-clause-front : goal.returns-in-Publish-clause-front
+returns-in-Publish-clause-front g c = λ inputs all at informs stands. rw c.in-Publish.is (c.publish.ensures.front inputs all at _ informs stands)
+
+pub returns-in-Check-clause-gave : goal.returns-in-Check-clause-gave
+returns-in-Check-clause-gave g c = λ inputs all at informs stands. rw c.in-Check.is (c.check.ensures.gave inputs all at _ informs stands)
+
+pub returns-in-Check-clause-front : goal.returns-in-Check-clause-front
+returns-in-Check-clause-front g c = λ inputs all at informs stands. rw c.in-Check.is (c.check.ensures.front inputs all at _ informs stands)

@@ -1,0 +1,64 @@
+-- What a run knows of all events and items from a control that stands for the first of them.
+use Rattle.std.proofs.Common.{◌≡◌, ℕ, ◌+◌, ◌≤◌, List, [], ◌∷◌, ◌++◌, length, take, Option, Some, None, refl, sym, ap, subst, ◌∙◌, append_assoc, arith, length-append}
+use Rattle.std.proofs.lemmas.List.{append-nil, take_at}
+use Rattle.bgp_wire.specs.Frames.{IsShort}
+use Rattle.feed_io.specs.Events.{Event}
+use Rattle.urpf_base.specs.declared.sessions.SessionConfig.{SessionConfig}
+use Rattle.session_fsm.specs.declared.items.Effect.{Effect}
+use Rattle.session_fsm.specs.declared.states.State.{State}
+use Rattle.control_core.specs.declared.peering.Peering.{Peering}
+use Rattle.control_core.specs.Items.{Item, AreItems, IsRest, LeavesOctets, SameButCuts, Stretch, spread, stretch_at_end}
+use Rattle.control_core.specs.Runs.{RunsFrom, Runs}
+use Rattle.control_core.specs.Standing.{StandsFor, held}
+use Rattle.control_core.specs.Waiting.{Gave}
+use Rattle.control_core.proofs.ItemLaws.{front_items, items_by_cuts, left_once, same_stretch, spread-append}
+use Rattle.control_core.proofs.StandingLaws.{none_pending}
+use Rattle.urpf_cli.specs.RunText.{Inputs, HasEffects, session_0}
+use Rattle.urpf_cli.specs.Running.{Informs}
+
+-- each item has one effect
+pub runs_length : (config : SessionConfig) (before : List Effect) (state : State) (items : List Item) (effects : List Effect) (last : State) → RunsFrom config before state items effects last → length effects ≡ length before + length items
+runs_length config before state [] effects last runs = omega (arith, ap length runs.0)
+runs_length config before state (item ∷ items) effects last runs =
+    omega (arith, runs_length config (before ++ runs.0.1 ∷ []) runs.0.0 items effects last runs.2, length-append before (runs.0.1 ∷ []))
+
+-- what a control that stands for the first events says of all items
+pub record Known (inputs : Inputs) (effects : List Effect) : Type 0 where
+  pub has : HasEffects inputs (length effects) effects
+  pub within : length effects ≤ length inputs.items
+
+pub known : (all gave rest : List Event) (inputs : Inputs) (effects : List Effect) (peering : Peering) → Informs all inputs → SameButCuts all (gave ++ rest) → (stands : StandsFor gave effects peering) → peering.session.config ≡ session_0 → Known inputs effects
+known all gave rest inputs effects peering informs same stands config =
+    let later = front_items gave rest (stands.took ++ stands.pending) inputs.items stands.items (items_by_cuts all (gave ++ rest) inputs.items same informs.items) in
+    let parts : inputs.items ≡ stands.took ++ (stands.pending ++ later.0) = later.1 ∙ append_assoc stands.took stands.pending later.0 in
+    let count : length effects ≡ length stands.took = omega (arith, runs_length peering.session.config [] _ stands.took effects peering.session.state stands.runs) in
+    let front : take (length effects) inputs.items ≡ stands.took = ap (take (length effects)) parts ∙ take_at stands.took (stands.pending ++ later.0) (length effects) (sym count) in
+    record {
+      has = (peering.session.state, subst (λ (xs : List Item). Runs session_0 xs effects peering.session.state) (sym front) (subst (λ (k : SessionConfig). Runs k stands.took effects peering.session.state) config stands.runs));
+      within = omega (arith, count, ap length parts, length-append stands.took (stands.pending ++ later.0));
+    }
+
+-- where the feed has nothing left and no item is still to be taken, all items were taken
+pub known_all : (all gave : List Event) (inputs : Inputs) (effects : List Effect) (peering : Peering) → Informs all inputs → SameButCuts all (gave ++ []) → (stands : StandsFor gave effects peering) → IsShort (held peering.intake) → length effects ≡ length inputs.items
+known_all all gave inputs effects peering informs same stands short =
+    let later = front_items gave [] (stands.took ++ stands.pending) inputs.items stands.items (items_by_cuts all (gave ++ []) inputs.items same informs.items) in
+    let others = front_items (gave ++ []) [] inputs.items (stands.took ++ stands.pending) (items_by_cuts all (gave ++ []) inputs.items same informs.items) (subst (λ (es : List Event). AreItems es (stands.took ++ stands.pending)) (sym (append-nil (gave ++ []) ∙ append-nil gave)) stands.items) in
+    let none = none_pending peering.intake.taking (stretch_at_end None gave) (held peering.intake) stands.pending short stands.stretch in
+    let count : length effects ≡ length stands.took = omega (arith, runs_length peering.session.config [] _ stands.took effects peering.session.state stands.runs) in
+    omega (arith, count, ap length none, ap length later.1, ap length others.1, length-append (stands.took ++ stands.pending) later.0, length-append inputs.items others.0, length-append stands.took stands.pending)
+
+-- what a feed that tells its events has left after a call
+pub left_after : (rest gave : List Event) (new : Option (List Event)) → Gave (Some rest) gave new → (later : List Event) × (new ≡ Some later) × SameButCuts rest (gave ++ later)
+left_after rest gave None told = absurd told
+left_after rest gave (Some later) told = (later, refl, told)
+
+-- the events that came before and those that came now
+pub all_parts : (all gave rest more later : List Event) → SameButCuts all (gave ++ rest) → SameButCuts rest (more ++ later) → SameButCuts all ((gave ++ more) ++ later)
+all_parts all gave rest more later same told =
+    same ∙ spread-append gave rest ∙ ap (λ (es : List Event). spread gave ++ es) told ∙ sym (spread-append gave (more ++ later)) ∙ ap spread (sym (append_assoc gave more later))
+
+-- the octets left behind at the end of all events
+pub rest_of_all : (all gave : List Event) (inputs : Inputs) (rest : ℕ) → Informs all inputs → SameButCuts all (gave ++ []) → IsRest gave rest → rest ≡ inputs.rest
+rest_of_all all gave inputs rest informs same is =
+    let stretch : stretch_at_end None gave ≡ stretch_at_end None all = ap (stretch_at_end None) (sym (append-nil gave)) ∙ sym (same_stretch None all (gave ++ []) same) in
+    left_once (stretch_at_end None all) rest inputs.rest (subst (λ (s : Stretch). LeavesOctets s rest) stretch is) informs.rest

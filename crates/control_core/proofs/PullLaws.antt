@@ -313,9 +313,9 @@ pulled_none events effects left held now stands ended =
     }
 
 -- how a pull that met the end, or that took all that was asked for, ends
-pub ends_at_end : (count : Option ℕ) (limits : Limits) (old new : Peering) (result : Result (Unit {0}) RunFault) → old.ended ≡ false → new.ended ≡ true → asks_more count (new.session.items - old.session.items) ≡ true → IfErr result (λ fault. fault ≡ WriteFault) → EndsBy count limits old new result
-ends_at_end count limits old new (Ok done) unmet ended asks err = inr (unmet, inl (ended, asks))
-ends_at_end count limits old new (Err fault) unmet ended asks err = subst (λ (f : RunFault). EndsBy count limits old new (Err f)) (sym err) tt
+pub ends_at_end : (count : Option ℕ) (limits : Limits) (old new : Peering) (result : Result (Unit {0}) RunFault) → old.ended ≡ false → new.ended ≡ true → asks_more count (new.session.items - old.session.items) ≡ true → new.session.items < limits.items → new.octets < limits.octets → IfErr result (λ fault. fault ≡ WriteFault) → EndsBy count limits old new result
+ends_at_end count limits old new (Ok done) unmet ended asks items octets err = inr (unmet, inl (ended, asks, items, octets))
+ends_at_end count limits old new (Err fault) unmet ended asks items octets err = subst (λ (f : RunFault). EndsBy count limits old new (Err f)) (sym err) tt
 
 -- a pull that memory ran out for, where it had come so far
 pub stopped_at : (events : List Event) (effects : List Effect) (config : SessionConfig) (old_left left : Option (List Event)) (old_held held : Option (List ℕ)) (now : Peering) → now.session.config ≡ config

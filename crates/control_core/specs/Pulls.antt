@@ -75,14 +75,14 @@ pub record Stopped (events : List Event) (effects : List Effect) (config : Sessi
   pub stands : StandsFor (events ++ gave) (effects ++ more) before
   pub wrote : Appends old_held new_held (reset_lines (length effects) more)
 
--- more items are asked for than were taken, and the end was not met
+-- more items are asked for than were taken, and the end was met neither before nor now
 abbrev pub IsAsked : Option ℕ → Peering → Peering → Type 0
-IsAsked count old new = (new.ended ≡ false) × (asks_more count (new.session.items - old.session.items) ≡ true)
+IsAsked count old new = (old.ended ≡ false) × (new.ended ≡ false) × (asks_more count (new.session.items - old.session.items) ≡ true)
 
 -- how a pull ends, where it leaves the session so: as it asked, at the end, or for one of these causes
 abbrev pub EndsBy : Option ℕ → Limits → Peering → Peering → Result (Unit {0}) RunFault → Type 0
 EndsBy count limits old new (Ok done) =
-    ((old.ended ≡ true) × (new ≡ old)) ⊎ ((old.ended ≡ false) × (((new.ended ≡ true) × (asks_more count (new.session.items - old.session.items) ≡ true))
+    ((old.ended ≡ true) × (new ≡ old)) ⊎ ((old.ended ≡ false) × (((new.ended ≡ true) × (asks_more count (new.session.items - old.session.items) ≡ true) × (new.session.items < limits.items) × (new.octets < limits.octets))
     ⊎ ((new.ended ≡ false) × (asks_more count (new.session.items - old.session.items) ≡ false))))
 EndsBy count limits old new (Err (ReadFault session)) =
     (session ≡ 0) × IsAsked count old new × (new.session.items < limits.items) × (new.octets < limits.octets) × IsShort (held new.intake)
@@ -91,6 +91,10 @@ EndsBy count limits old new (Err (ItemLimit session)) = (session ≡ 0) × IsAsk
 EndsBy count limits old new (Err (OctetLimit session)) =
     (session ≡ 0) × IsAsked count old new × (new.session.items < limits.items) × (limits.octets ≤ new.octets) × IsShort (held new.intake)
 EndsBy count limits old new (Err OutOfMemory) = Unit {0}
+
+-- a session within the limit of items stays within it
+abbrev pub StaysWithin : Limits → Peering → Peering → Type 0
+StaysWithin limits old new = old.session.items ≤ limits.items → new.session.items ≤ limits.items
 
 -- no more items are taken than are asked for
 abbrev pub TakesAtMost : Option ℕ → Peering → Peering → Type 0

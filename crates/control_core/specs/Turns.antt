@@ -50,7 +50,7 @@ pub record Turned (events : List Event) (effects : List Effect) (old_left new_le
 abbrev pub Counts : Result Turn RunFault → Peering → Peering → Limits → Type 0
 Counts (Ok (Took reset)) old new limits = (new.session.items ≡ old.session.items + 1) × (new.octets ≡ old.octets) × (new.ended ≡ old.ended)
 Counts (Ok Octets) old new limits = (new.session.items ≡ old.session.items) × (old.octets < new.octets) × (new.octets ≤ limits.octets) × (new.ended ≡ old.ended)
-Counts (Ok (End rest)) old new limits = (new.session.items ≡ old.session.items) × (new.ended ≡ true) × IsShort (held new.intake)
+Counts (Ok (End rest)) old new limits = (new.session.items ≡ old.session.items) × (new.ended ≡ true) × (new.octets < limits.octets) × IsShort (held new.intake)
 Counts (Err (ReadFault session)) old new limits = (new.session.items ≡ old.session.items) × (new.ended ≡ old.ended) × (new.octets < limits.octets) × IsShort (held new.intake)
 Counts (Err WriteFault) old new limits = ⊥
 Counts (Err (ItemLimit session)) old new limits = ⊥

@@ -8,7 +8,7 @@ ghost use Rattle.adj_rib.specs.Routes.{prefixes_of};
 ghost use Rattle.feed_io.specs.Events.{Event};
 ghost use Rattle.session_fsm.specs.declared.items.Effect.{Effect};
 ghost use Rattle.control_core.specs.Controls.{IsOpened, KeepsPublished, Publishes};
-ghost use Rattle.control_core.specs.Pulls.{EndsBy, Pulled, Stopped, TakesAtMost};
+ghost use Rattle.control_core.specs.Pulls.{EndsBy, Pulled, StaysWithin, Stopped, TakesAtMost};
 ghost use Rattle.control_core.specs.Standing.{StandsFor};
 ghost use Rattle.control_core.specs.Turns.{HadMemory};
 
@@ -57,6 +57,7 @@ impl Control {
             → Stopped events effects self.old.peering.session.config (F.left feed.old)
             (K.held out.old) (K.held out.new) }
         ensures within { TakesAtMost count self.old.peering self.new.peering }
+        ensures limited { StaysWithin self.old.limits self.old.peering self.new.peering }
         // When it ends so.
         ensures ends { EndsBy count self.old.limits self.old.peering self.new.peering result }
         ensures read { (s : ℕ) → result ≡ Err (RunFault.ReadFault s)

@@ -8,7 +8,7 @@ ghost use Rattle.session_fsm.specs.declared.items.Effect.{Effect};
 ghost use Rattle.report_text.specs.Lines.{end_line};
 ghost use Rattle.control_core.specs.Standing.{StandsFor};
 ghost use Rattle.control_core.specs.Turns.{HadMemory};
-ghost use Rattle.control_core.specs.Pulls.{EndsBy, Pulled, Stopped, TakesAtMost, reset_text};
+ghost use Rattle.control_core.specs.Pulls.{EndsBy, Pulled, StaysWithin, Stopped, TakesAtMost, reset_text};
 ghost use Rattle.control_core.specs.Pulls as pulls;
 
 use crate::limits::{ITEM_LIMIT, Limits, RunFault};
@@ -37,6 +37,7 @@ pub fn pull_items<F: Feed, K: Sink>(
         (K.held out.old) (K.held out.new) }
     ensures ends { EndsBy count limits.now peering.old peering.new result }
     ensures within { TakesAtMost count peering.old peering.new }
+    ensures limited { StaysWithin limits.now peering.old peering.new }
     ensures read { (s : ℕ) → result ≡ Err (RunFault.ReadFault s)
         → Rose (F.faults feed.old) (F.faults feed.new) }
     ensures write { result ≡ Err RunFault.WriteFault → Rose (K.faults out.old) (K.faults out.new) }

@@ -12,6 +12,7 @@ loop-count-init g c = record {
   unmet = c.requires.unmet;
   begun = c.items-begun.ensures;
   within = takes_none c.args.count c.args.peering.now;
+  limited = λ within. within;
   feed = omega arith;
   out = omega arith;
   config = refl;
@@ -45,6 +46,7 @@ loop-count-preserved-in_default g c =
           (subst (λ (n : ℕ). Appends (g.K.Sink.held c.loop-count.out) (g.K.Sink.held c.tell_reset.new.out) (reset_text n c.in-Ok-Took.reset)) c.items-in-Ok-Took.ensures c.in_default.ensures.ok);
       unmet = counts.2 ∙ c.loop-count.invariant.unmet;
       begun = c.items-begun.ensures;
+      limited = λ begun. omega (arith, counts.0, c.if-limits-items.false);
       within = takes_more c.args.count c.args.peering.now c.loop-count.peering c.turn.new.self c.loop-count.invariant.within asks counts.0;
       feed = omega (arith, c.loop-count.invariant.feed, c.in-Ok-Took.ensures.later);
       out = omega (arith, c.loop-count.invariant.out, c.tell_reset.ensures.cause.later);
@@ -62,6 +64,7 @@ loop-count-preserved g c =
           so_far_none events effects _ _ _ _ _ c.loop-count.peering c.turn.new.self _ far more more.shows;
       unmet = counts.3 ∙ c.loop-count.invariant.unmet;
       begun = c.items-begun.ensures;
+      limited = λ begun. omega (arith, counts.0, c.loop-count.invariant.limited begun);
       within = takes_same c.args.count c.args.peering.now c.loop-count.peering c.turn.new.self c.loop-count.invariant.within counts.0;
       feed = omega (arith, c.loop-count.invariant.feed, c.in-Ok-Octets.ensures.later);
       out = c.loop-count.invariant.out;
@@ -74,7 +77,7 @@ returns-in-Ok-End-clause-pulled g c = λ events effects stands memory.
     let turned = rw c.in-Ok-End.field-0-is at c.in-Ok-End.ensures.stands in
     let counts = rw c.in-Ok-End.field-0-is at c.in-Ok-End.ensures.counts in
     let took = took_end c.tell_end.result (g.K.Sink.held c.loop-count.out) (g.K.Sink.held c.tell_end.new.out) (end_line 0 c.items-in-Ok-End.result c.in-Ok-End.rest) c.tell_end.ensures.ok c.tell_end.ensures.err c.tell_end.ensures.cut_short in
-    pulled_end events effects _ _ _ _ _ _ c.tell_end.result c.args.peering.now c.loop-count.peering c.turn.new.self c.in-Ok-End.rest far (turned _ _ far.stands tt) c.requires.unmet counts.1 counts.2
+    pulled_end events effects _ _ _ _ _ _ c.tell_end.result c.args.peering.now c.loop-count.peering c.turn.new.self c.in-Ok-End.rest far (turned _ _ far.stands tt) c.requires.unmet counts.1 counts.3
     (subst (λ (n : ℕ). TookEnd c.tell_end.result (g.K.Sink.held c.loop-count.out) (g.K.Sink.held c.tell_end.new.out) (end_line 0 n c.in-Ok-End.rest)) c.items-in-Ok-End.ensures took)
 
 pub returns-in-Err-clause-pulled : goal.returns-in-Err-clause-pulled

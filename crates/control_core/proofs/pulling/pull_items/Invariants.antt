@@ -2,7 +2,7 @@ use Rattle.std.proofs.Common.{◌≡◌, ◌-◌, ◌+◌, ◌≤◌, List, fals
 use Rattle.feed_io.specs.Events.{Event}
 use Rattle.session_fsm.specs.declared.items.Effect.{Effect}
 use Rattle.control_core.specs.Standing.{StandsFor}
-use Rattle.control_core.specs.Pulls.{TakesAtMost}
+use Rattle.control_core.specs.Pulls.{StaysWithin, TakesAtMost}
 use Rattle.control_core.proofs.PullLaws.{SoFar}
 use Rattle.control_core.proofs.pulling.pull_items.Given as goal
 
@@ -13,6 +13,7 @@ invariant-loop-count g l = record {
   unmet : l.peering.ended ≡ false;
   begun : l.begun ≡ l.initial.peering.session.items;
   within : TakesAtMost l.count l.initial.peering l.peering;
+  limited : StaysWithin l.limits l.initial.peering l.peering;
   feed : g.F.Feed.faults l.initial.feed ≤ g.F.Feed.faults l.feed;
   out : g.K.Sink.faults l.initial.out ≤ g.K.Sink.faults l.out;
   config : l.peering.session.config ≡ l.initial.peering.session.config;

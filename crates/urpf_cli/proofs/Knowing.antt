@@ -1,18 +1,19 @@
 -- What a run knows of all events and items from a control that stands for the first of them.
-use Rattle.std.proofs.Common.{◌≡◌, ℕ, ◌+◌, ◌≤◌, List, [], ◌∷◌, ◌++◌, length, take, Option, Some, None, refl, sym, ap, subst, ◌∙◌, append_assoc, arith, length-append}
+use Rattle.std.proofs.Common.{◌≡◌, ℕ, ◌+◌, ◌≤◌, List, [], ◌∷◌, ◌++◌, length, take, map, Option, Some, None, refl, sym, ap, subst, ◌∙◌, append_assoc, arith, length-append}
 use Rattle.std.proofs.lemmas.List.{append-nil, take_at}
 use Rattle.bgp_wire.specs.Frames.{IsShort}
-use Rattle.feed_io.specs.Events.{Event}
+use Rattle.feed_io.specs.Events.{Event, up, octets, down, elapsed}
 use Rattle.urpf_base.specs.declared.sessions.SessionConfig.{SessionConfig}
 use Rattle.session_fsm.specs.declared.items.Effect.{Effect}
 use Rattle.session_fsm.specs.declared.states.State.{State}
 use Rattle.control_core.specs.declared.peering.Peering.{Peering}
-use Rattle.control_core.specs.Items.{Item, AreItems, IsRest, LeavesOctets, SameButCuts, Stretch, spread, stretch_at_end}
+use Rattle.control_core.specs.Items.{Item, AreItems, IsRest, LeavesOctets, SameButCuts, Stretch, spread, octet_count, stretch_at_end}
 use Rattle.control_core.specs.Runs.{RunsFrom, Runs}
 use Rattle.control_core.specs.Standing.{StandsFor, held}
 use Rattle.control_core.specs.Waiting.{Gave}
 use Rattle.control_core.proofs.ItemLaws.{front_items, items_by_cuts, left_once, same_stretch, spread-append}
 use Rattle.control_core.proofs.StandingLaws.{none_pending}
+use Rattle.control_core.proofs.TurnLaws.{octet_count-append}
 use Rattle.urpf_cli.specs.RunText.{Inputs, HasEffects, session_0}
 use Rattle.urpf_cli.specs.Running.{Informs}
 
@@ -62,3 +63,21 @@ pub rest_of_all : (all gave : List Event) (inputs : Inputs) (rest : ℕ) → Inf
 rest_of_all all gave inputs rest informs same is =
     let stretch : stretch_at_end None gave ≡ stretch_at_end None all = ap (stretch_at_end None) (sym (append-nil gave)) ∙ sym (same_stretch None all (gave ++ []) same) in
     left_once (stretch_at_end None all) rest inputs.rest (subst (λ (s : Stretch). LeavesOctets s rest) stretch is) informs.rest
+
+-- how many octets came does not depend on cuts
+octet_count-singles : (piece : List ℕ) (later : List Event) → octet_count (map (λ octet. octets (octet ∷ [])) piece ++ later) ≡ length piece + octet_count later
+octet_count-singles [] later = omega arith
+octet_count-singles (b ∷ bs) later = omega (arith, octet_count-singles bs later)
+
+octet_count-spread : (events : List Event) → octet_count (spread events) ≡ octet_count events
+octet_count-spread [] = refl
+octet_count-spread (up ∷ events) = octet_count-spread events
+octet_count-spread (octets piece ∷ events) = octet_count-singles piece (spread events) ∙ ap (λ (n : ℕ). length piece + n) (octet_count-spread events)
+octet_count-spread (down ∷ events) = octet_count-spread events
+octet_count-spread (elapsed seconds ∷ events) = octet_count-spread events
+
+pub octets_parted : (all gave rest : List Event) → SameButCuts all (gave ++ rest) → octet_count all ≡ octet_count gave + octet_count rest
+octets_parted all gave rest same = sym (octet_count-spread all) ∙ ap octet_count same ∙ octet_count-spread (gave ++ rest) ∙ octet_count-append gave rest
+
+pub octets_within : (all gave rest : List Event) → SameButCuts all (gave ++ rest) → octet_count gave ≤ octet_count all
+octets_within all gave rest same = omega (arith, octets_parted all gave rest same)

@@ -14,20 +14,20 @@ pub record Leads (total : ℕ) (count : Option ℕ) (at : Position) (taken : ℕ
   pub ended_is : (pulled total count at).ended ≡ ended
   pub all_taken : ended ≡ true → taken ≡ total
 
-or_true : (b : Bool) → (b || true) ≡ true
+pub or_true : (b : Bool) → (b || true) ≡ true
 or_true true = refl
 or_true false = refl
 
-is_below : (a b : ℕ) → a < b → nat_lt a b ≡ true
+pub is_below : (a b : ℕ) → a < b → nat_lt a b ≡ true
 is_below a b less = grind (arith, nat_tests)
 
 not_below : (a b : ℕ) → b ≤ a → nat_lt a b ≡ false
 not_below a b le = grind (arith, nat_tests)
 
-below_is : (a b : ℕ) → nat_lt a b ≡ true → a < b
+pub below_is : (a b : ℕ) → nat_lt a b ≡ true → a < b
 below_is a b is = grind (arith, nat_tests)
 
-below_not : (a b : ℕ) → nat_lt a b ≡ false → b ≤ a
+pub below_not : (a b : ℕ) → nat_lt a b ≡ false → b ≤ a
 below_not a b is = grind (arith, nat_tests)
 
 -- a pull after the end

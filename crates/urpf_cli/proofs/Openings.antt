@@ -1,5 +1,5 @@
 -- A run at its opening, and what a run as a whole wrote.
-use Rattle.std.proofs.Common.{◌≡◌, ℕ, true, false, List, [], ◌≤◌, Option, Some, None, IfSome, refl, subst}
+use Rattle.std.proofs.Common.{◌≡◌, ℕ, true, false, List, [], ◌≤◌, Option, Some, None, IfSome, refl, subst, arith}
 use Rattle.bgp_wire.proofs.Framings.{has_framing}
 use Rattle.feed_io.specs.Events.{Event}
 use Rattle.runbook.specs.declared.lines.BookLine.{BookLine}
@@ -29,6 +29,9 @@ opened_stands events inputs control left opened is = record {
   taken = refl;
   ended = opened.ended;
   all_taken = λ ended. let clash : false ≡ true = ended in cc;
+  within = omega arith;
+  few_items = λ ended. let clash : false ≡ true = ended in cc;
+  few_octets = λ ended. let clash : false ≡ true = ended in cc;
   number = opened.number;
   marked = [];
   has_marked = (Idle, (refl, refl));

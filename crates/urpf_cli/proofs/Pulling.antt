@@ -1,9 +1,9 @@
 -- A run at a position after one more line of its runbook.
-use Rattle.std.proofs.Common.{◌≡◌, ◌⊎◌, ℕ, ◌+◌, ◌≤◌, Bool, true, false, List, [], ◌∷◌, ◌++◌, length, take, drop, map, Option, Some, None, Result, Ok, Err, refl, sym, ap, subst, ◌∙◌, arith, inl, inr, length-append}
+use Rattle.std.proofs.Common.{◌≡◌, ◌⊎◌, ℕ, ◌+◌, ◌<◌, ◌≤◌, Bool, true, false, List, [], ◌∷◌, ◌++◌, length, take, drop, Option, Some, None, Result, Ok, Err, refl, sym, ap, subst, ◌∙◌, arith, inl, inr, length-append}
 use Rattle.std.specs.Prelude.{not, ◌&&◌, ◌↔◌, OnOk, OnErr}
 use Rattle.std.specs.Io.KnownBytes.{Appends}
 use Rattle.std.proofs.lemmas.List.{append-nil, take-append-drop}
-use Rattle.feed_io.specs.Events.{Event, up, octets, down, elapsed}
+use Rattle.feed_io.specs.Events.{Event}
 use Rattle.urpf_base.specs.Address.{Block, Covers}
 use Rattle.urpf_base.specs.Lists.{Has}
 use Rattle.urpf_base.specs.declared.address.Addr.{Addr}
@@ -20,21 +20,20 @@ use Rattle.control_core.specs.declared.limits.TheConstants.{ITEM_LIMIT, OCTET_LI
 use Rattle.control_core.specs.declared.limits.RunFault.{RunFault}
 use Rattle.control_core.specs.declared.limits.RunFault.TheVariants as refusal
 use Rattle.control_core.specs.declared.peering.Peering.{Peering}
-use Rattle.control_core.specs.Items.{SameButCuts, spread, octet_count}
+use Rattle.control_core.specs.Items.{SameButCuts, octet_count}
 use Rattle.control_core.specs.Controls.{KeepsPublished, Publishes}
 use Rattle.control_core.specs.Effects.{HoldsAll}
 use Rattle.control_core.specs.Standing.{StandsFor, held}
 use Rattle.control_core.specs.Turns.{HadMemory}
 use Rattle.control_core.specs.Waiting.{Gave, IsEmptied}
-use Rattle.control_core.specs.Pulls.{reset_lines, IsEndText, IsPullText, Wrote, met_end, Pulled, EndsBy, TakesAtMost, Stopped}
+use Rattle.control_core.specs.Pulls.{reset_lines, IsEndText, IsPullText, Wrote, met_end, Pulled, EndsBy, StaysWithin, TakesAtMost, Stopped}
 use Rattle.control_core.proofs.PullLaws.{appends_none}
-use Rattle.control_core.proofs.TurnLaws.{octet_count-append}
 use Rattle.urpf_cli.specs.Stops.{status_of_run}
 use Rattle.urpf_cli.specs.declared.status.Object.TheVariants as named
 use Rattle.urpf_cli.proofs.Giving.{changed_from, judges_by}
 use Rattle.urpf_cli.specs.RunText.{Inputs, HasEffects, Position, pulled, published, AreResets, end_text, PullGives, PublishGives, CheckGives, Gives}
-use Rattle.urpf_cli.specs.Running.{Informs, IsRunStop, Stands, StopsRun, GaveLine, GaveLineFront}
-use Rattle.urpf_cli.proofs.Knowing.{known, known_all, left_after, all_parts, rest_of_all}
+use Rattle.urpf_cli.specs.Running.{Informs, IsRunStop, Stands, StopsRun, GaveLine, GaveLineFront, run_limits}
+use Rattle.urpf_cli.proofs.Knowing.{known, known_all, left_after, all_parts, octets_parted, octets_within, rest_of_all}
 use Rattle.urpf_cli.proofs.Leading.{at_most, leads}
 
 -- what a run knows after a pull, whatever it ended with but want of memory
@@ -105,6 +104,21 @@ pulled_marked : (total : ℕ) (count : Option ℕ) (at : Position) → (pulled t
 pulled_marked total None at = refl
 pulled_marked total (Some count) at = refl
 
+-- a feed that met its end did so below both limits
+met_below : (all : List Event) (inputs : Inputs) (at : Position) (count : Option ℕ) (limits : Limits) (old new : Peering) (gave rest : List Event) (effects : List Effect)
+    → old.ended ≡ at.ended → (at.ended ≡ true → length inputs.items < ITEM_LIMIT) → (at.ended ≡ true → octet_count all < OCTET_LIMIT) → limits ≡ run_limits
+    → StandsFor gave effects new → SameButCuts all (gave ++ rest) → (met_end old new ≡ true → length effects ≡ length inputs.items) → (met_end old new ≡ true → rest ≡ [])
+    → EndsBy count limits old new (Ok tt) → new.ended ≡ true → (length inputs.items < ITEM_LIMIT) × (octet_count all < OCTET_LIMIT)
+met_below all inputs at count limits old new gave rest effects ended few octets own stands same full none (inl after) is = (few (sym ended ∙ after.0), octets (sym ended ∙ after.0))
+met_below all inputs at count limits old new gave rest effects ended few octets own stands same full none (inr (unmet, inl end)) is =
+    let met : met_end old new ≡ true = ap (λ (b : Bool). not b && new.ended) unmet ∙ end.0 in
+    let items : new.session.items < ITEM_LIMIT = subst (λ (l : Limits). new.session.items < l.items) own end.2 in
+    let given : new.octets < OCTET_LIMIT = subst (λ (l : Limits). new.octets < l.octets) own end.3 in
+    let count : octet_count all ≡ octet_count gave + octet_count rest = octets_parted all gave rest same in
+    let none_left : octet_count rest ≡ 0 = ap octet_count (none met) in
+    (omega (arith, items, stands.counted, full met), omega (arith, given, stands.octets, count, none_left))
+met_below all inputs at count limits old new gave rest effects ended few octets own stands same full none (inr (unmet, inr on)) is = let clash : true ≡ false = sym is ∙ on.0 in cc
+
 -- a pull that ended well, and where it leads
 pub record Pulls (all : List Event) (inputs : Inputs) (at : Position) (count : Option ℕ) (old new : Control) (old_left new_left : Option (List Event)) (old_held new_held : Option (List ℕ)) : Type 0 where
   pub stands : Stands all inputs (pulled (length inputs.items) count at) new new_left
@@ -114,9 +128,9 @@ pub record Pulls (all : List Event) (inputs : Inputs) (at : Position) (count : O
 
 pub pulls_well : (all : List Event) (inputs : Inputs) (at : Position) (count : Option ℕ) (limits : Limits) (old new : Control) (old_left new_left : Option (List Event)) (old_held new_held : Option (List ℕ))
     → Informs all inputs → (s : Stands all inputs at old old_left) → Pulled s.gave s.effects old_left new_left old_held new_held (Ok tt) old.peering new.peering
-    → EndsBy count limits old.peering new.peering (Ok tt) → TakesAtMost count old.peering new.peering → KeepsPublished old new
+    → EndsBy count limits old.peering new.peering (Ok tt) → TakesAtMost count old.peering new.peering → StaysWithin limits old.peering new.peering → limits ≡ old.limits → KeepsPublished old new
     → Pulls all inputs at count old new old_left new_left old_held new_held
-pulls_well all inputs at count limits old new old_left new_left old_held new_held informs s p ends most kept =
+pulls_well all inputs at count limits old new old_left new_left old_held new_held informs s p ends most stays own kept =
     let total : ℕ = length inputs.items in
     let f = further all inputs at old old_left new_left old_held new_held (Ok tt) new.peering informs s p kept.config in
     let items : new.peering.session.items ≡ length f.effects = f.stands.counted in
@@ -126,6 +140,11 @@ pulls_well all inputs at count limits old new old_left new_left old_held new_hel
     let next_taken : next.taken ≡ length f.effects = lead.taken_is ∙ items in
     let met : met_end old.peering new.peering ≡ (not at.ended && next.ended) =
     ap (λ (b : Bool). not b && new.peering.ended) s.ended ∙ ap (λ (b : Bool). not at.ended && b) (sym lead.ended_is) in
+    let below : next.ended ≡ true → (total < ITEM_LIMIT) × (octet_count all < OCTET_LIMIT) = λ is.
+    met_below all inputs at count limits old.peering new.peering f.gave f.rest f.effects s.ended s.few_items s.few_octets (own ∙ s.limits) f.stands f.same f.met
+    (λ met. emptied_is old_left new_left s.rest f.rest s.left_is f.left_is (p.emptied met).0) ends (sym lead.ended_is ∙ is) in
+    let limit : limits.items ≡ ITEM_LIMIT = ap (λ (l : Limits). l.items) (own ∙ s.limits) in
+    let stayed : new.peering.session.items ≤ ITEM_LIMIT = omega (arith, limit, stays (omega (arith, limit, s.within, s.taken, s.stands.counted))) in
     let wrote = p.wrote in
     record {
       stands = record {
@@ -140,6 +159,9 @@ pulls_well all inputs at count limits old new old_left new_left old_held new_hel
         taken = next_taken;
         ended = sym lead.ended_is;
         all_taken = λ is. lead.taken_is ∙ lead.all_taken (sym lead.ended_is ∙ is);
+        within = omega (arith, lead.taken_is, stayed);
+        few_items = λ is. (below is).0;
+        few_octets = λ is. (below is).1;
         number = kept.number ∙ s.number ∙ sym (pulled_number total count at);
         marked = s.marked;
         has_marked = subst (λ (n : ℕ). HasEffects inputs n s.marked) (sym (pulled_marked total count at)) s.has_marked;
@@ -230,23 +252,6 @@ pull_starved all inputs at session count old old_left old_held new_held informs 
       appended = stop.wrote;
     }
 
--- how many octets came does not depend on cuts
-octet_count-singles : (piece : List ℕ) (later : List Event) → octet_count (map (λ octet. octets (octet ∷ [])) piece ++ later) ≡ length piece + octet_count later
-octet_count-singles [] later = omega arith
-octet_count-singles (b ∷ bs) later = omega (arith, octet_count-singles bs later)
-
-octet_count-spread : (events : List Event) → octet_count (spread events) ≡ octet_count events
-octet_count-spread [] = refl
-octet_count-spread (up ∷ events) = octet_count-spread events
-octet_count-spread (octets piece ∷ events) = octet_count-singles piece (spread events) ∙ ap (λ (n : ℕ). length piece + n) (octet_count-spread events)
-octet_count-spread (down ∷ events) = octet_count-spread events
-octet_count-spread (elapsed seconds ∷ events) = octet_count-spread events
-
-octets_within : (all gave rest : List Event) → SameButCuts all (gave ++ rest) → octet_count gave ≤ octet_count all
-octets_within all gave rest same =
-    let count : octet_count all ≡ octet_count gave + octet_count rest = sym (octet_count-spread all) ∙ ap octet_count same ∙ octet_count-spread (gave ++ rest) ∙ octet_count-append gave rest in
-    omega (arith, count)
-
 -- why a pull stopped
 pub pull_stops : (all : List Event) (inputs : Inputs) (at : Position) (count : Option ℕ) (old new : Control) (old_left new_left : Option (List Event)) (old_held new_held : Option (List ℕ)) (fault : RunFault)
     → Informs all inputs → (s : Stands all inputs at old old_left) → Pulled s.gave s.effects old_left new_left old_held new_held (Err fault) old.peering new.peering
@@ -302,6 +307,9 @@ published_stands all inputs at old new left answer informs s p same limits =
       taken = s.taken;
       ended = ap (λ (x : Peering). x.ended) same ∙ s.ended;
       all_taken = s.all_taken;
+      within = s.within;
+      few_items = s.few_items;
+      few_octets = s.few_octets;
       number = p.now ∙ p.number ∙ ap (λ (n : ℕ). n + 1) s.number;
       marked = s.effects;
       has_marked = subst (λ (n : ℕ). HasEffects inputs n s.effects) (sym s.taken) before.has;

@@ -29,7 +29,7 @@ position_more total (l ∷ lines) line at = position_more total lines line (next
 concat_more : (texts : List (List ℕ)) (text : List ℕ) → concat (texts ++ text ∷ []) ≡ concat texts ++ text
 concat_more texts text = concat-append texts (text ∷ []) ∙ ap (λ t. concat texts ++ t) (append-nil text)
 
-line_more : (rows : List (ℕ × BookLine)) (k : ℕ) (row : ℕ × BookLine) → slice_get rows k ≡ Some row → take (k + 1) (lines_in rows) ≡ take k (lines_in rows) ++ row.1 ∷ []
+pub line_more : (rows : List (ℕ × BookLine)) (k : ℕ) (row : ℕ × BookLine) → slice_get rows k ≡ Some row → take (k + 1) (lines_in rows) ≡ take k (lines_in rows) ++ row.1 ∷ []
 line_more rows k row is =
     let here : get_or rows k row ≡ row = sym (unwrap_or-slice_get rows k row) ∙ ap (λ o. unwrap_or o row) is in
     let more : take (k + 1) rows ≡ take k rows ++ row ∷ [] = take_more rows k row (slice_get_within rows k row is) ∙ ap (λ r. take k rows ++ r ∷ []) here in

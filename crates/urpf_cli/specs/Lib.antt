@@ -1,4 +1,5 @@
 pub mod CheckOne
+pub mod Limited
 pub mod Offline
 pub mod RunText
 pub mod Running

@@ -1,5 +1,5 @@
 -- How a run in progress stands to the positions of its runbook, and what it has written. Our own choice.
-use Rattle.std.specs.Prelude.{◌≡◌, ◌⊎◌, ℕ, ◌≤◌, true, List, [], ◌++◌, length, take, map, slice_get, Option, Some}
+use Rattle.std.specs.Prelude.{◌≡◌, ◌⊎◌, ℕ, ◌<◌, ◌≤◌, true, List, [], ◌++◌, length, take, map, slice_get, Option, Some}
 use Rattle.std.specs.List.{concat}
 use Rattle.std.specs.Io.KnownBytes.{Appends}
 use Rattle.feed_io.specs.Events.{Event}
@@ -28,7 +28,7 @@ pub record Informs (events : List Event) (inputs : Inputs) : Type 0 where
   pub rest : IsRest events inputs.rest
 
 -- the run is at this position: its control took so many items of the events, and published the routes of the last mark;
--- the feed has the other events left
+-- the feed has the other events left. It took no more items than a session may, and met the end only below both limits
 pub record Stands (all : List Event) (inputs : Inputs) (at : Position) (control : Control) (left : Option (List Event)) : Type 0 where
   pub gave : List Event
   pub rest : List Event
@@ -41,6 +41,9 @@ pub record Stands (all : List Event) (inputs : Inputs) (at : Position) (control 
   pub taken : at.taken ≡ length effects
   pub ended : control.peering.ended ≡ at.ended
   pub all_taken : at.ended ≡ true → at.taken ≡ length inputs.items
+  pub within : at.taken ≤ ITEM_LIMIT
+  pub few_items : at.ended ≡ true → length inputs.items < ITEM_LIMIT
+  pub few_octets : at.ended ≡ true → octet_count all < OCTET_LIMIT
   pub number : control.number ≡ at.number
   pub marked : List Effect
   pub has_marked : HasEffects inputs at.marked marked

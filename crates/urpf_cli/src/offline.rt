@@ -8,6 +8,7 @@ ghost use Rattle.runbook.specs.declared.lines.BookKind.{BookKind};
 ghost use Rattle.runbook.specs.Book.{IsFirstFault};
 ghost use Rattle.urpf_cli.specs.declared.status.Status.{Status};
 ghost use Rattle.urpf_cli.specs.Offline.{AreOfflineWords, HasBook, HasItems, IsForeignStatus, IsPastBook, Merits, WritesRun, WritesRunFront};
+ghost use Rattle.urpf_cli.specs.Limited.{IsAtLimit, TellsLimit};
 ghost use Rattle.urpf_cli.specs.Running.{IsRunStop};
 
 use crate::status::{Object, Status};
@@ -50,6 +51,9 @@ pub fn offline_feed<S: Source, F: Feed, K: Sink>(
         → IfSome (F.left feed.old) (λ events. HasItems events ITEM_LIMIT) }
     ensures octet_limit { result ≡ Status.OctetLimit 0
         → IfSome (F.left feed.old) (λ events. OCTET_LIMIT ≤ octet_count events) }
+    ensures limits { TellsLimit result
+        → IfSome (S.left book.old) (λ text. IfSome (F.left feed.old)
+        (λ events. IsAtLimit text events (F.left feed.new) result)) }
     ensures write_fault { result ≡ Status.WriteFault
         → Rose (K.faults out.old) (K.faults out.new) }
     ensures foreign { IsForeignStatus result → ⊥ }

@@ -5,6 +5,7 @@ ghost use Rattle.urpf_cli.specs.Stops.{status_of_run};
 ghost use Rattle.std.specs.Io.KnownBytes.{Appends};
 ghost use Rattle.urpf_base.specs.Faults.{HasCause, Rose};
 ghost use Rattle.feed_io.specs.Events.{Event};
+ghost use Rattle.urpf_cli.specs.Limited.{StopsAtLimit};
 ghost use Rattle.urpf_cli.specs.RunText.{Inputs, Position, next_position, published, pulled};
 ghost use Rattle.urpf_cli.specs.Running.{GaveLine, GaveLineFront, Informs, IsRunStop, Stands, StopsRun};
 ghost use Rattle.urpf_cli.specs.declared.status.Object.{Object};
@@ -38,6 +39,9 @@ pub fn take_line<F: Feed, K: Sink>(
     ensures stops { (inputs : Inputs) (all : List Event) (at : Position) → Informs all inputs
         → Stands all inputs at control.old (F.left feed.old)
         → IfErr result (StopsRun all inputs) }
+    ensures limited { (inputs : Inputs) (all : List Event) (at : Position) → Informs all inputs
+        → Stands all inputs at control.old (F.left feed.old)
+        → IfErr result (StopsAtLimit all at line.now (F.left feed.new)) }
     ensures err { IfErr result IsRunStop }
     ensures number { control.new.number ≤ control.old.number + 1 }
     ensures read { result ≡ Err (Status.ReadFault (Object.Session 0))
@@ -72,6 +76,9 @@ fn pull<F: Feed, K: Sink>(
     ensures stops { (inputs : Inputs) (all : List Event) (at : Position) → Informs all inputs
         → Stands all inputs at control.old (F.left feed.old)
         → IfErr result (StopsRun all inputs) }
+    ensures limited { (inputs : Inputs) (all : List Event) (at : Position) (session : Option ℕ) → Informs all inputs
+        → Stands all inputs at control.old (F.left feed.old)
+        → IfErr result (StopsAtLimit all at (BookLine.Pull session count) (F.left feed.new)) }
     ensures err { IfErr result IsRunStop }
     ensures number { control.new.number ≡ control.old.number }
     ensures read { result ≡ Err (Status.ReadFault (Object.Session 0))

@@ -7,6 +7,7 @@ ghost use Rattle.urpf_cli.specs.declared.status.Object.{Object};
 ghost use Rattle.std.specs.Io.KnownBytes.{Appends};
 ghost use Rattle.urpf_base.specs.Faults.{Rose};
 ghost use Rattle.feed_io.specs.Events.{Event};
+ghost use Rattle.urpf_cli.specs.Limited.{EndsAtLimit};
 ghost use Rattle.urpf_cli.specs.RunText.{Inputs, head_text, opening, position_after, session_0};
 ghost use Rattle.urpf_cli.specs.Running.{Gave, GaveFront, Informs, IsRunStop, Stands, StopsRun, WroteFront, WroteRun, lines_in, run_limits};
 ghost use Rattle.urpf_cli.specs.declared.status.Status.{Status};
@@ -45,6 +46,11 @@ pub fn run_book<F: Feed, K: Sink>(
         (K.held out.old) (K.held out.new)) }
     ensures stops { (events : List Event) (inputs : Inputs) → F.left feed.old ≡ Some events
         → Informs events inputs → IfErr result (StopsRun events inputs) }
+    ensures limited { (events : List Event) (inputs : Inputs) → F.left feed.old ≡ Some events
+        → Informs events inputs → IfErr result (EndsAtLimit events (lines_in book.now) (F.left feed.new)) }
+    ensures unlimited { (events : List Event) (inputs : Inputs) → F.left feed.old ≡ Some events
+        → Informs events inputs → OnOk result
+        (EndsAtLimit events (lines_in book.now) (F.left feed.new) Status.Done) }
     ensures err { IfErr result IsRunStop }
     ensures read { result ≡ Err (Status.ReadFault (Object.Session 0))
         → Rose (F.faults feed.old) (F.faults feed.new) }
@@ -133,6 +139,9 @@ fn take_lines<F: Feed, K: Sink>(
     ensures stops { (all : List Event) (inputs : Inputs) → Informs all inputs
         → Stands all inputs opening control.old (F.left feed.old)
         → IfErr result (StopsRun all inputs) }
+    ensures limited { (all : List Event) (inputs : Inputs) → Informs all inputs
+        → Stands all inputs opening control.old (F.left feed.old)
+        → IfErr result (EndsAtLimit all (lines_in book.now) (F.left feed.new)) }
     ensures err { IfErr result IsRunStop }
     ensures read { result ≡ Err (Status.ReadFault (Object.Session 0))
         → Rose (F.faults feed.old) (F.faults feed.new) }

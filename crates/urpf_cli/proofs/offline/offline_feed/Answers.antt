@@ -3,6 +3,7 @@ use Rattle.std.specs.Prelude.{string_bytes}
 use Rattle.urpf_cli.specs.Running.{StopsRun}
 use Rattle.urpf_cli.specs.declared.status.Status.{Status}
 use Rattle.urpf_cli.specs.declared.status.Status.TheVariants.{Done}
+use Rattle.urpf_cli.proofs.Limiting.{limit_told}
 use Rattle.urpf_cli.proofs.Merits.{bad_alone, run_alone, stops_below}
 use Rattle.urpf_cli.proofs.Openings.{front_written, items_reached, octets_reached, run_written, some_inputs}
 use Rattle.urpf_cli.proofs.offline.offline_feed.Goals as goal
@@ -42,3 +43,13 @@ returns-clause-cut_short g c = λ stops had.
 pub returns-clause-memory : goal.returns-clause-memory
 returns-clause-memory g c = λ is.
     inr (front_written (g.S.Source.left c.args.book.now) (g.F.Feed.left c.args.feed.now) c.in-Ok.text.items c.in-Ok-read_book.book (g.K.Sink.held c.args.out.now) (g.K.Sink.held c.run_book.new.out) c.in-Ok.ensures.whole (rw c.deref.ensures.value at c.in-Ok-read_book.ensures.found) c.in-Err.ensures.front)
+
+pub returns-in-Ok-run_book-clause-limits : goal.returns-in-Ok-run_book-clause-limits
+returns-in-Ok-run_book-clause-limits g c = λ tells.
+    limit_told (g.S.Source.left c.args.book.now) (g.F.Feed.left c.args.feed.now) (g.F.Feed.left c.run_book.new.feed) c.in-Ok.text.items c.in-Ok-read_book.book Done c.in-Ok.ensures.whole (rw c.deref.ensures.value at c.in-Ok-read_book.ensures.found)
+    (λ events left. let all = some_inputs events in c.in-Ok-run_book.ensures.unlimited events all.0 left all.1)
+
+pub returns-clause-limits : goal.returns-clause-limits
+returns-clause-limits g c = λ tells.
+    limit_told (g.S.Source.left c.args.book.now) (g.F.Feed.left c.args.feed.now) (g.F.Feed.left c.run_book.new.feed) c.in-Ok.text.items c.in-Ok-read_book.book c.in-Err.status c.in-Ok.ensures.whole (rw c.deref.ensures.value at c.in-Ok-read_book.ensures.found)
+    (λ events left. let all = some_inputs events in c.in-Err.ensures.limited events all.0 left all.1)

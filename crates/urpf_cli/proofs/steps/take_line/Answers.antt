@@ -11,3 +11,6 @@ returns-in-Check-clause-gave g c = λ inputs all at informs stands. rw c.in-Chec
 
 pub returns-in-Check-clause-front : goal.returns-in-Check-clause-front
 returns-in-Check-clause-front g c = λ inputs all at informs stands. rw c.in-Check.is (c.check.ensures.front inputs all at _ informs stands)
+
+pub returns-in-Pull-clause-limited : goal.returns-in-Pull-clause-limited
+returns-in-Pull-clause-limited g c = λ inputs all at informs stands. rw c.in-Pull.is (c.pull.ensures.limited inputs all at _ informs stands)

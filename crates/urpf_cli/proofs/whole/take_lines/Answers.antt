@@ -1,6 +1,7 @@
-use Rattle.std.proofs.Common.{arith, length, take}
+use Rattle.std.proofs.Common.{arith, length, subst, take}
 use Rattle.urpf_cli.specs.RunText.{opening, position_after}
-use Rattle.urpf_cli.specs.Running.{lines_in}
+use Rattle.urpf_cli.specs.Running.{IsRunStop, lines_in}
+use Rattle.urpf_cli.proofs.Limiting.{line_limited}
 use Rattle.urpf_cli.proofs.Runs.{gave_more, gave_stop, stands_more}
 use Rattle.urpf_cli.proofs.whole.take_lines.Goals as goal
 
@@ -23,3 +24,9 @@ loop-k-preserved g c =
       feed = omega (arith, c.loop-k.invariant.feed, c.take_line.ensures.later.0);
       later = omega (arith, c.loop-k.invariant.later, c.take_line.ensures.later.1);
     }
+
+pub returns-in-Err-clause-limited : goal.returns-in-Err-clause-limited
+returns-in-Err-clause-limited g c = λ all inputs informs stands.
+    let at = position_after (length inputs.items) (take c.loop-k.k (lines_in c.args.book.now)) opening in
+    line_limited all (length inputs.items) c.args.book.now c.loop-k.k c.line-line.result (g.F.Feed.left c.take_line.new.feed) c.in-Err.status c.line-line.ensures (c.in-Err.ensures.limited inputs all at informs (c.loop-k.invariant.stands all inputs informs stands))
+    (λ is. subst IsRunStop is c.in-Err.ensures.err)

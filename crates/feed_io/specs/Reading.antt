@@ -23,6 +23,12 @@ Moved None taken held new count now = Unit {0}
 Moved (Some text) taken held None count now = ⊥
 Moved (Some text) taken held (Some rest) count now = Moves text taken held rest count now
 
+-- what was read so far and what is left come to the same number of octets, where that is told
+abbrev pub KeepsCount : Option (List ℕ) → ℕ → Option (List ℕ) → ℕ → Type 0
+KeepsCount None taken new count = Unit {0}
+KeepsCount (Some text) taken None count = ⊥
+KeepsCount (Some text) taken (Some rest) count = count + length rest ≡ taken + length text
+
 -- there is no event in the octets that may still be read, and the text goes on up to there at least
 pub record NeedsMore (taken : ℕ) (held text : List ℕ) : Type 0 where
   pub beyond : TRACE_OCTETS - taken ≤ length text

@@ -7,7 +7,7 @@ ghost use Rattle.std.specs.Io.KnownBytes.{Consumes, IsAtEnd, Keeps};
 ghost use Rattle.urpf_base.specs.Faults.{HasCause, Rose};
 ghost use Rattle.feed_io.specs.Events.{GivesAtMost, GivesNext};
 ghost use Rattle.feed_io.specs.Memory.{counted_up};
-ghost use Rattle.feed_io.specs.Reading.{Moved, events_left, Stops};
+ghost use Rattle.feed_io.specs.Reading.{KeepsCount, Moved, events_left, Stops};
 ghost use Rattle.feed_io.specs.Traces.{head_length, owed_head, trace_events};
 ghost use Rattle.feed_io.specs.declared.limited.TheConstants as limit;
 
@@ -67,6 +67,10 @@ impl<S: Source + Drop> Feed for TraceFeed<S> {
         ensures failed { OnErr result (Rose (S.faults self.old.input.source) (S.faults self.new.input.source)
             ⊎ (IfSome (S.left self.old.input.source) (Stops self.old.input.taken self.old.head)
             ⊎ (self.old.spent ≡ true))) }
+        // All octets that it reads count towards the limit.
+        ensures counted { OnOk result (KeepsCount (S.left self.old.input.source) self.old.input.taken
+            (S.left self.new.input.source) self.new.input.taken) }
+        ensures grows { OnOk result (self.old.input.taken ≤ self.new.input.taken) }
         // Where the format or the limit stops it, it fails.
         ensures stops { IfSome (S.left self.old.input.source) (λ text.
             Stops self.old.input.taken self.old.head text → IsErr result) }
@@ -95,6 +99,9 @@ fn read_event<S: Source + Drop>(
     ensures later { S.faults input.old.source ≤ S.faults input.new.source }
     ensures failed { OnErr result (Rose (S.faults input.old.source) (S.faults input.new.source)
         ⊎ IfSome (S.left input.old.source) (Stops input.old.taken head.old)) }
+    ensures counted { OnOk result (KeepsCount (S.left input.old.source) input.old.taken
+        (S.left input.new.source) input.new.taken) }
+    ensures grows { OnOk result (input.old.taken ≤ input.new.taken) }
     ensures stops { IfSome (S.left input.old.source) (λ text.
         Stops input.old.taken head.old text → IsErr result) }
 {
@@ -136,6 +143,7 @@ fn fill<S: Source + Drop>(input: &mut Limited<S>, head: &mut Head) -> Result<boo
     ensures moved { Moved (S.left input.old.source) input.old.taken head.old
         (S.left input.new.source) input.new.taken head.new }
     ensures later { S.faults input.old.source ≤ S.faults input.new.source }
+    ensures grows { input.old.taken ≤ input.new.taken }
     ensures whole { result ≡ Ok true → length head.new ≡ head_length head.new }
     ensures short { result ≡ Ok false → length head.new < head_length head.new }
     ensures ended { result ≡ Ok false → IsAtEnd (S.left input.new.source) }
@@ -168,6 +176,7 @@ fn read_piece<S: Source + Drop>(
     ensures bound { IfOk result (λ n. (1 ≤ n) × (n ≤ length buf.new) × (n ≤ count)) }
     ensures octets { IfOk result (λ n. Consumes (S.left input.old.source) (S.left input.new.source) (take n buf.new)) }
     ensures more { OnOk result (input.old.taken < limit.TRACE_OCTETS) }
+    ensures taken { IfOk result (λ n. input.new.taken ≡ input.old.taken + n) }
     ensures kept { OnErr result (Keeps (S.left input.old.source) (S.left input.new.source)) }
     ensures later { S.faults input.old.source ≤ S.faults input.new.source }
     ensures failed { OnErr result (Rose (S.faults input.old.source) (S.faults input.new.source)

@@ -19,7 +19,7 @@ use Rattle.bgp_wire.specs.Frames.{IsShort}
 use Rattle.control_core.specs.Taking.{reset_of}
 use Rattle.control_core.specs.Turns.{Counts, HadMemory, Turned}
 use Rattle.control_core.specs.Waiting.{Gave, IsEmptied}
-use Rattle.control_core.specs.Pulls.{asks_more, EndsBy, TakesAtMost, reset_text, reset_lines, IsEndText, IsPullText, Wrote, met_end, Pulled, Stopped}
+use Rattle.control_core.specs.Pulls.{asks_more, EndsBy, StaysWithin, TakesAtMost, reset_text, reset_lines, IsEndText, IsPullText, Wrote, met_end, Pulled, Stopped}
 use Rattle.urpf_base.specs.declared.sessions.SessionConfig.{SessionConfig}
 use Rattle.urpf_base.specs.declared.sessions.ResetCause.{ResetCause}
 use Rattle.urpf_base.proofs.Growth.{Appends-append}
@@ -276,7 +276,15 @@ takes_until count (ReadFault session) old mid new limits within asks counts = ta
 takes_until count WriteFault old mid new limits within asks counts = absurd counts
 takes_until count (ItemLimit session) old mid new limits within asks counts = absurd counts
 takes_until count (OctetLimit session) old mid new limits within asks counts = takes_same count old mid new within counts.0
-takes_until count OutOfMemory old mid new limits within asks counts = takes_more count old mid new within asks counts
+takes_until count OutOfMemory old mid new limits within asks counts = takes_more count old mid new within asks counts.0
+
+-- a turn that failed passes no limit
+pub stays_until : (fault : RunFault) (old mid new : Peering) (limits : Limits) → StaysWithin limits old mid → mid.session.items < limits.items → Counts (Err fault) mid new limits → StaysWithin limits old new
+stays_until (ReadFault session) old mid new limits stays below counts = (λ begun. omega (arith, below, counts.0), λ begun. omega (arith, counts.2))
+stays_until WriteFault old mid new limits stays below counts = absurd counts
+stays_until (ItemLimit session) old mid new limits stays below counts = absurd counts
+stays_until (OctetLimit session) old mid new limits stays below counts = (λ begun. omega (arith, below, counts.0), λ begun. omega (arith, stays.1 begun, counts.4))
+stays_until OutOfMemory old mid new limits stays below counts = (λ begun. omega (arith, below, counts.0), λ begun. omega (arith, stays.1 begun, counts.1))
 
 -- a pull whose turn failed
 pub pulled_until : (events : List Event) (effects : List Effect) (old_left mid_left new_left : Option (List Event)) (old_held new_held : Option (List ℕ)) (fault : RunFault) (old mid new : Peering) (limits : Limits)

@@ -239,7 +239,7 @@ counts_item (Err (ReadFault session)) old new limits is counts = let clash : Rea
 counts_item (Err WriteFault) old new limits is counts = let clash : WriteFault ≡ OutOfMemory = is in cc
 counts_item (Err (ItemLimit session)) old new limits is counts = let clash : ItemLimit session ≡ OutOfMemory = is in cc
 counts_item (Err (OctetLimit session)) old new limits is counts = let clash : OctetLimit session ≡ OutOfMemory = is in cc
-counts_item (Err OutOfMemory) old new limits is counts = counts.items
+counts_item (Err OutOfMemory) old new limits is counts = (counts.items, counts.octets)
 
 -- a turn that took an item of an event that came, or of no new one
 pub turned_item : (events gave : List Event) (effects : List Effect) (old_left new_left : Option (List Event)) (result : Result Turn RunFault) (new : Peering)

@@ -92,9 +92,9 @@ EndsBy count limits old new (Err (OctetLimit session)) =
     (session ≡ 0) × IsAsked count old new × (new.session.items < limits.items) × (limits.octets ≤ new.octets) × IsShort (held new.intake)
 EndsBy count limits old new (Err OutOfMemory) = Unit {0}
 
--- a session within the limit of items stays within it
+-- a session within a limit stays within it
 abbrev pub StaysWithin : Limits → Peering → Peering → Type 0
-StaysWithin limits old new = old.session.items ≤ limits.items → new.session.items ≤ limits.items
+StaysWithin limits old new = (old.session.items ≤ limits.items → new.session.items ≤ limits.items) × (old.octets ≤ limits.octets → new.octets ≤ limits.octets)
 
 -- no more items are taken than are asked for
 abbrev pub TakesAtMost : Option ℕ → Peering → Peering → Type 0

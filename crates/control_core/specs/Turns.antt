@@ -54,5 +54,5 @@ Counts (Ok (End rest)) old new limits = (new.session.items ≡ old.session.items
 Counts (Err (ReadFault session)) old new limits = (new.session.items ≡ old.session.items) × (new.ended ≡ old.ended) × (new.octets < limits.octets) × IsShort (held new.intake)
 Counts (Err WriteFault) old new limits = ⊥
 Counts (Err (ItemLimit session)) old new limits = ⊥
-Counts (Err (OctetLimit session)) old new limits = (new.session.items ≡ old.session.items) × (new.ended ≡ old.ended) × (limits.octets ≤ new.octets) × IsShort (held new.intake)
-Counts (Err OutOfMemory) old new limits = new.session.items ≡ old.session.items + 1
+Counts (Err (OctetLimit session)) old new limits = (new.session.items ≡ old.session.items) × (new.ended ≡ old.ended) × (limits.octets ≤ new.octets) × IsShort (held new.intake) × (new.octets ≡ old.octets)
+Counts (Err OutOfMemory) old new limits = (new.session.items ≡ old.session.items + 1) × (new.octets ≡ old.octets)

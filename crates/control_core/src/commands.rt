@@ -58,6 +58,8 @@ impl Control {
             (K.held out.old) (K.held out.new) }
         ensures within { TakesAtMost count self.old.peering self.new.peering }
         ensures limited { StaysWithin self.old.limits self.old.peering self.new.peering }
+        ensures after { self.old.peering.ended ≡ true
+            → IfErr result (λ fault. fault ≡ RunFault.OutOfMemory) }
         // When it ends so.
         ensures ends { EndsBy count self.old.limits self.old.peering self.new.peering result }
         ensures read { (s : ℕ) → result ≡ Err (RunFault.ReadFault s)

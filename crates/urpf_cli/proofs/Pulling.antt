@@ -144,7 +144,7 @@ pulls_well all inputs at count limits old new old_left new_left old_held new_hel
     met_below all inputs at count limits old.peering new.peering f.gave f.rest f.effects s.ended s.few_items s.few_octets (own ∙ s.limits) f.stands f.same f.met
     (λ met. emptied_is old_left new_left s.rest f.rest s.left_is f.left_is (p.emptied met).0) ends (sym lead.ended_is ∙ is) in
     let limit : limits.items ≡ ITEM_LIMIT = ap (λ (l : Limits). l.items) (own ∙ s.limits) in
-    let stayed : new.peering.session.items ≤ ITEM_LIMIT = omega (arith, limit, stays (omega (arith, limit, s.within, s.taken, s.stands.counted))) in
+    let stayed : new.peering.session.items ≤ ITEM_LIMIT = omega (arith, limit, stays.0 (omega (arith, limit, s.within, s.taken, s.stands.counted))) in
     let wrote = p.wrote in
     record {
       stands = record {

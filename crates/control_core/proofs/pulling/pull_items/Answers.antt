@@ -1,7 +1,7 @@
 use Rattle.std.proofs.Common.{◌≡◌, ◌-◌, ℕ, true, Ok, Err, refl, sym, ap, subst, ◌∙◌, arith, take}
 use Rattle.control_core.specs.Pulls.{asks_more, reset_text}
 use Rattle.control_core.specs.declared.limits.RunFault.TheVariants.{ItemLimit}
-use Rattle.control_core.proofs.PullLaws.{so_far_begins, so_far_none, so_far_item, one_more_item, stopped_at, pulled_so_far, pulled_cut, pulled_end, pulled_until, takes_none, takes_same, takes_more, takes_until, took_end, TookEnd}
+use Rattle.control_core.proofs.PullLaws.{so_far_begins, so_far_none, so_far_item, one_more_item, stopped_at, pulled_so_far, pulled_cut, pulled_end, pulled_until, takes_none, takes_same, takes_more, takes_until, stays_until, took_end, TookEnd}
 use Rattle.std.specs.Io.KnownBytes.{Appends}
 use Rattle.report_text.specs.Lines.{end_line}
 use Rattle.control_core.proofs.pulling.pull_items.Goals as goal
@@ -12,7 +12,7 @@ loop-count-init g c = record {
   unmet = c.requires.unmet;
   begun = c.items-begun.ensures;
   within = takes_none c.args.count c.args.peering.now;
-  limited = λ within. within;
+  limited = (λ within. within, λ within. within);
   feed = omega arith;
   out = omega arith;
   config = refl;
@@ -46,7 +46,7 @@ loop-count-preserved-in_default g c =
           (subst (λ (n : ℕ). Appends (g.K.Sink.held c.loop-count.out) (g.K.Sink.held c.tell_reset.new.out) (reset_text n c.in-Ok-Took.reset)) c.items-in-Ok-Took.ensures c.in_default.ensures.ok);
       unmet = counts.2 ∙ c.loop-count.invariant.unmet;
       begun = c.items-begun.ensures;
-      limited = λ begun. omega (arith, counts.0, c.if-limits-items.false);
+      limited = (λ begun. omega (arith, counts.0, c.if-limits-items.false), λ begun. omega (arith, counts.1, c.loop-count.invariant.limited.1 begun));
       within = takes_more c.args.count c.args.peering.now c.loop-count.peering c.turn.new.self c.loop-count.invariant.within asks counts.0;
       feed = omega (arith, c.loop-count.invariant.feed, c.in-Ok-Took.ensures.later);
       out = omega (arith, c.loop-count.invariant.out, c.tell_reset.ensures.cause.later);
@@ -64,7 +64,7 @@ loop-count-preserved g c =
           so_far_none events effects _ _ _ _ _ c.loop-count.peering c.turn.new.self _ far more more.shows;
       unmet = counts.3 ∙ c.loop-count.invariant.unmet;
       begun = c.items-begun.ensures;
-      limited = λ begun. omega (arith, counts.0, c.loop-count.invariant.limited begun);
+      limited = (λ begun. omega (arith, counts.0, c.loop-count.invariant.limited.0 begun), λ begun. omega (arith, counts.2));
       within = takes_same c.args.count c.args.peering.now c.loop-count.peering c.turn.new.self c.loop-count.invariant.within counts.0;
       feed = omega (arith, c.loop-count.invariant.feed, c.in-Ok-Octets.ensures.later);
       out = c.loop-count.invariant.out;
@@ -99,3 +99,7 @@ returns-clause-pulled g c = λ events effects stands memory.
 pub returns-in-Err-clause-stopped : goal.returns-in-Err-clause-stopped
 returns-in-Err-clause-stopped g c = λ events effects stands memory.
     stopped_at events effects c.args.peering.now.session.config _ _ _ _ c.loop-count.peering c.loop-count.invariant.config (c.loop-count.invariant.so_far events effects stands)
+
+pub returns-in-Err-clause-limited : goal.returns-in-Err-clause-limited
+returns-in-Err-clause-limited g c =
+    stays_until c.in-Err.fault c.args.peering.now c.loop-count.peering c.turn.new.self c.args.limits.now c.loop-count.invariant.limited (omega (arith, c.if-limits-items.false)) c.in-Err.ensures.counts

@@ -1,7 +1,9 @@
 pub mod Alike
+pub mod Ascending
 pub mod Bits
 pub mod Growth
 pub mod Membership
 pub mod Order
 pub mod RouteUpdates
 pub mod Series
+pub mod Members

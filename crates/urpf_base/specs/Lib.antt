@@ -1,6 +1,9 @@
 pub mod Address
+pub mod Cells
 pub mod Faults
+pub mod Kinds
 pub mod Lists
+pub mod Masks
 pub mod Order
 pub mod RouteUpdates
 pub mod Series

@@ -3,10 +3,13 @@
 #![tactic(auto)]
 
 mod address;
+mod cells;
 mod counting;
 mod interfaces;
+mod kinds;
 mod laws;
 mod line_buffer;
+mod masks;
 mod origins;
 mod outside;
 mod prefixes;
@@ -16,10 +19,13 @@ mod verdicts;
 mod writing;
 
 pub use address::Addr;
+pub use cells::{Cell, CellChange, Changes};
 pub use counting::Steps;
 pub use interfaces::{IFACE_LIMIT, IfaceId};
-pub use laws::order_of_prefixes;
-pub use line_buffer::Line;
+pub use kinds::{Kind, Mode, Role};
+pub use laws::{assigned_limits, members_of_masks, order_of_prefixes};
+pub use line_buffer::{LINE_OCTETS, Line};
+pub use masks::Mask;
 pub use origins::Origin;
 pub use outside::{Failed, OutOfMemory, Sink, Source};
 pub use prefixes::Prefix;

@@ -1,7 +1,7 @@
 //! A prefix: the first bits of an address (RFC 4271, section 4.3), and the addresses that it covers.
 ghost use Rattle.std.specs.Prelude.{◌≡◌, ◌≤◌, ◌<◌, ◌^◌, ◌↔◌, IsTrue};
 ghost use Rattle.std.specs.Option.{SomeIff};
-ghost use Rattle.urpf_base.specs.Address.{cleared, FirstBitsAgree, Covers, block_of, width_of};
+ghost use Rattle.urpf_base.specs.Address.{cleared, FirstBitsAgree, Covers, IsBlock, block_of, width_of};
 
 use crate::address::Addr;
 use std::marker::Model;
@@ -59,7 +59,8 @@ impl Prefix {
 
     /// The address, whose bits past the length are zero.
     pub fn addr(&self) -> Addr
-        ensures { result ≡ self.now.addr }
+        ensures value { result ≡ self.now.addr }
+        ensures block { IsBlock self.now.addr self.now.len }
     {
         self.addr
     }

@@ -1,5 +1,5 @@
 //! A whole text out of a source.
-ghost use Rattle.std.specs.Prelude.{◌≡◌, ◌<◌, ◌≤◌, [], length, Some, IfOk, IfSome, vec_len};
+ghost use Rattle.std.specs.Prelude.{◌≡◌, ◌+◌, ◌<◌, ◌≤◌, [], length, Some, IfOk, IfSome, vec_len};
 ghost use Rattle.urpf_base.specs.Faults.{Rose};
 
 use crate::outside::{Failed, Source};
@@ -34,6 +34,9 @@ pub fn read_text<S: Source>(
         → IfSome (S.left source.old) (λ all. limit < length all) }
     ensures failed { result ≡ Err TextFault.Failed
         → Rose (S.faults source.old) (S.faults source.new) }
+    ensures once { S.faults source.new ≤ S.faults source.old + 1 }
+    ensures kept { (result ≡ Err TextFault.Failed → ⊥)
+        → S.faults source.new ≡ S.faults source.old }
     ensures later { S.faults source.old ≤ S.faults source.new }
 {
     let mut buf = [0u8; CHUNK_OCTETS];

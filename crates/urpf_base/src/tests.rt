@@ -1,7 +1,10 @@
 //! What no clause says: worked prefixes, and each of the other calls once.
 ghost use Rattle.std.specs.Prelude.{◌≡◌, ◌<◌};
 
-use crate::{Addr, IfaceId, Prefix, Steps, order_of_prefixes};
+use crate::{
+    Addr, Cell, CellChange, Changes, IfaceId, Kind, Mask, Mode, Prefix, Role, Steps,
+    order_of_prefixes,
+};
 use std::marker::Brand;
 use std::sync::ledger::{Blank, Ledger};
 use std::test::Fail;
@@ -52,5 +55,45 @@ fn steps_are_counted_at_a_ledger() {
 fn interfaces_have_numbers_below_64(rt: HostRuntime) -> Result<(), Fail> {
     assert_eq!(rt; IfaceId::new(64), None);
     assert_eq!(rt; IfaceId::new(63).ok_or("fits")?.number(), 63);
+    Ok(())
+}
+
+#[test]
+fn a_mask_is_a_set_of_interfaces(rt: HostRuntime) -> Result<(), Fail> {
+    let first = IfaceId::new(0).ok_or("fits")?;
+    let last = IfaceId::new(63).ok_or("fits")?;
+    let both = Mask::empty().with(first).union(Mask::empty().with(last));
+    assert!(rt; both.has(first) && both.has(last));
+    assert!(rt; !both.without(first).has(first) && both.without(first).has(last));
+    assert!(rt; both.without(first).without(last).is_empty());
+    Ok(())
+}
+
+#[test]
+fn algorithms_are_for_customers(rt: HostRuntime) {
+    let customer = Kind {
+        role: Role::Customer,
+        mode: Mode::EfpA,
+    };
+    let provider = Kind {
+        role: Role::Provider,
+        mode: Mode::EfpB,
+    };
+    assert_eq!(rt; customer.effective(), Mode::EfpA);
+    assert_eq!(rt; provider.effective(), Mode::Loose);
+}
+
+#[test]
+fn changes_are_kept_in_their_order(rt: HostRuntime) -> Result<(), Fail> {
+    let prefix = Prefix::new(Addr::V4(0xC633_6400), 24).ok_or("fits")?;
+    let cell = Cell {
+        f: Mask::empty(),
+        a: Mask::empty(),
+        z: true,
+    };
+    let mut changes = Changes::new(rt.alloc());
+    changes.push(CellChange { prefix, cell }).or(Err("memory"))?;
+    assert_eq!(rt; changes.items().len(), 1);
+    assert!(rt; changes.items()[0].cell.z);
     Ok(())
 }

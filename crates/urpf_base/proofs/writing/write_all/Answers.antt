@@ -1,4 +1,4 @@
-use Rattle.std.proofs.Common.{ℕ, arith, length-take, length-drop}
+use Rattle.std.proofs.Common.{ℕ, ◌∙◌, arith, length-take, length-drop}
 use Rattle.urpf_base.proofs.Growth.{Appends-more}
 use Rattle.urpf_base.proofs.writing.write_all.Goals as goal
 
@@ -10,5 +10,5 @@ loop-taken-preserved g c =
       front =
           Appends-more (g.K.Sink.held c.args.sink.now) (g.K.Sink.held c.loop-taken.sink) (g.K.Sink.held c.write.new.self) c.args.piece.now c.loop-taken.taken c.in_ok-taken.field-0
           c.loop-taken.invariant.front written.octets;
-      later = omega (arith, c.loop-taken.invariant.later, written.cause.later);
+      kept = written.cause.kept ∙ c.loop-taken.invariant.kept;
     }

@@ -11,3 +11,10 @@ pub record HasCause {T E : Type 0} (before now : ℕ) (result : Result T E) : Ty
   pub kept : OnOk result (now ≡ before)
   pub failed : OnErr result (Rose before now)
   pub once : OnErr result (now ≤ before + 1)
+
+-- a count of faults counts one exactly where a call ended so, for calls that may end otherwise too
+pub record CountsFault (failed : Type 0) (before now : ℕ) : Type 0 where
+  pub later : before ≤ now
+  pub kept : (failed → ⊥) → now ≡ before
+  pub rose : failed → Rose before now
+  pub once : now ≤ before + 1

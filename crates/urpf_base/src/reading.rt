@@ -1,6 +1,6 @@
 //! A whole text out of a source.
-ghost use Rattle.std.specs.Prelude.{◌≡◌, ◌+◌, ◌<◌, ◌≤◌, [], length, Some, IfOk, IfSome, vec_len};
-ghost use Rattle.urpf_base.specs.Faults.{Rose};
+ghost use Rattle.std.specs.Prelude.{◌≡◌, ◌<◌, ◌≤◌, [], length, Some, IfOk, IfSome, vec_len};
+ghost use Rattle.urpf_base.specs.Faults.{CountsFault};
 
 use crate::outside::{Failed, Source};
 use std::alloc::Global;
@@ -32,12 +32,8 @@ pub fn read_text<S: Source>(
     ensures within { IfOk result (λ text. vec_len text ≤ limit) }
     ensures too_long { result ≡ Err TextFault.TooLong
         → IfSome (S.left source.old) (λ all. limit < length all) }
-    ensures failed { result ≡ Err TextFault.Failed
-        → Rose (S.faults source.old) (S.faults source.new) }
-    ensures once { S.faults source.new ≤ S.faults source.old + 1 }
-    ensures kept { (result ≡ Err TextFault.Failed → ⊥)
-        → S.faults source.new ≡ S.faults source.old }
-    ensures later { S.faults source.old ≤ S.faults source.new }
+    ensures cause { CountsFault (result ≡ Err TextFault.Failed)
+        (S.faults source.old) (S.faults source.new) }
 {
     let mut buf = [0u8; CHUNK_OCTETS];
     let mut text = Vec::new(alloc);

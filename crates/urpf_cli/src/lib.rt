@@ -4,11 +4,11 @@
 mod check;
 mod laws;
 mod offline;
+mod run;
+mod run_line;
 mod session;
 mod status;
 mod status_text;
-mod steps;
-mod whole;
 mod words;
 
 pub use check::{STREAM_OCTETS, check_one};
@@ -16,6 +16,7 @@ pub use laws::{assigned_numbers, one_run_text};
 pub use offline::{BOOK_OCTETS, offline_feed};
 pub use status::{Object, Status};
 pub use status_text::{exit_code, put_status};
+pub use words::{Command, read_command};
 
 #[cfg(test)]
 mod tests;

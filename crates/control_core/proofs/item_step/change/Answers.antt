@@ -1,7 +1,7 @@
 use Rattle.std.proofs.Common.{◌<◌, ◌≤◌, subst}
 use Rattle.urpf_base.specs.declared.sessions.SessionConfig.{SessionConfig}
-use Rattle.control_core.proofs.TakingLaws.{changed_within, changed_over}
-use Rattle.control_core.proofs.taking.change.Goals as goal
+use Rattle.control_core.proofs.ItemStepLaws.{changed_within, changed_over}
+use Rattle.control_core.proofs.item_step.change.Goals as goal
 
 pub returns-then-len-config-clause-changed : goal.returns-then-len-config-clause-changed
 returns-then-len-config-clause-changed c =

@@ -1,34 +1,34 @@
-//! What a session does with the octets of its feed until they are items: those of one stretch are
+//! What a session does with the octets of its feed until they are items: those of one connection are
 //! framed, and those that come while no transport is up, or behind a header fault, are dropped
 //! (RFC 4271, sections 4.1 and 6.1).
 ghost use Rattle.std.specs.Prelude.{◌≡◌, ◌++◌, [], true, false};
 ghost use Rattle.bgp_wire.specs.Frames.{IsShort};
 ghost use Rattle.bgp_wire.specs.States.{IsState, IsLongEnough};
 
-use crate::waiting::Waiting;
+use crate::receive_buffer::ReceiveBuffer;
 use bgp_wire::{FrameState, Framer};
 
 /// The octets that a session holds: in the framer those of the message that comes next, and behind
 /// them those that wait.
 #[derive(Drop)]
-pub struct Intake {
+pub struct Reassembly {
     pub framer: Framer,
-    pub waiting: Waiting,
-    /// Whether more octets belong to the stretch: a transport is up, and no header fault came.
-    pub taking: bool,
+    pub waiting: ReceiveBuffer,
+    /// Whether more octets belong to the connection: a transport is up, and no header fault came.
+    pub receiving: bool,
 }
 
-impl Intake {
+impl Reassembly {
     /// No transport is up.
-    pub fn new() -> Intake
+    pub fn new() -> Reassembly
         ensures framer { result.framer ≡ [] }
         ensures waiting { result.waiting ≡ [] }
-        ensures taking { result.taking ≡ false }
+        ensures receiving { result.receiving ≡ false }
     {
-        Intake {
+        Reassembly {
             framer: Framer::new(),
-            waiting: Waiting::new(),
-            taking: false,
+            waiting: ReceiveBuffer::new(),
+            receiving: false,
         }
     }
 
@@ -38,7 +38,7 @@ impl Intake {
         ensures state { IsState self.new.framer result }
         ensures least { IsLongEnough self.new.framer result }
         ensures all { IsShort self.new.framer → self.new.waiting ≡ [] }
-        ensures taking { self.new.taking ≡ self.old.taking }
+        ensures receiving { self.new.receiving ≡ self.old.receiving }
     {
         match self.framer.state() {
             FrameState::Partial(_) => self.fill_framer(),
@@ -54,31 +54,31 @@ impl Intake {
         ensures state { IsState self.new.framer result }
         ensures least { IsLongEnough self.new.framer result }
         ensures all { IsShort self.new.framer → self.new.waiting ≡ [] }
-        ensures taking { self.new.taking ≡ self.old.taking }
+        ensures receiving { self.new.receiving ≡ self.old.receiving }
     {
         let count = self.framer.push(self.waiting.octets());
         self.waiting.advance(count);
         self.framer.state()
     }
 
-    /// A stretch begins. Octets that were left of the one before are dropped.
+    /// A connection begins. Octets that were left of the one before are dropped.
     pub fn begin(&mut self)
         ensures framer { self.new.framer ≡ [] }
         ensures waiting { self.new.waiting ≡ [] }
-        ensures taking { self.new.taking ≡ true }
+        ensures receiving { self.new.receiving ≡ true }
     {
         self.stop();
-        self.taking = true;
+        self.receiving = true;
     }
 
-    /// The octets that are left are dropped, and so are those that come until a stretch begins.
+    /// The octets that are left are dropped, and so are those that come until a connection begins.
     pub fn stop(&mut self)
         ensures framer { self.new.framer ≡ [] }
         ensures waiting { self.new.waiting ≡ [] }
-        ensures taking { self.new.taking ≡ false }
+        ensures receiving { self.new.receiving ≡ false }
     {
         self.framer.clear();
         self.waiting.clear();
-        self.taking = false;
+        self.receiving = false;
     }
 }

@@ -4,15 +4,10 @@ use Rattle.std.specs.List.{concat, AllByRecursion}
 use Rattle.bgp_wire.specs.Frames.{Framing, Fault, IsMessage}
 use Rattle.feed_io.specs.Events.{Event}
 use Rattle.session_fsm.specs.declared.items.Effect.{Effect}
-use Rattle.control_core.specs.declared.intake.Intake.{Intake}
-use Rattle.control_core.specs.declared.peering.Peering.{Peering}
-use Rattle.control_core.specs.Items.{Item, Stretch, AreItems, AreItemsOf, stretch_at_end, octet_count}
+use Rattle.control_core.specs.States.{PeerState}
+use Rattle.control_core.specs.Items.{Item, Connection, AreItems, AreItemsOf, connection_at_end, octet_count}
 use Rattle.control_core.specs.Effects.{HoldsAll}
 use Rattle.control_core.specs.Runs.{Runs}
-
--- the octets that are held: those in the framer, and behind them those that wait
-abbrev pub held : Intake → List ℕ
-held intake = intake.framer ++ intake.waiting
 
 -- the text is whole messages, and then these octets, whose items are these
 pub record IsUsedUpTo (text octets : List ℕ) (pending : List Item) : Type 0 where
@@ -27,22 +22,22 @@ pub record HasFault (text : List ℕ) : Type 0 where
   pub subcode : ℕ
   pub fault : framing.end ≡ Fault subcode
 
--- how the octets that are held, and the items still to be taken, stand to the stretch that reaches the end of the events:
+-- how the octets that are held, and the items still to be taken, stand to the connection that reaches the end of the events:
 -- where it takes more octets they are what its items have not used; where no transport is up, or its header fault was taken, there are none
-abbrev pub HoldsStretch : Bool → Stretch → List ℕ → List Item → Type 0
-HoldsStretch true None octets pending = ⊥
-HoldsStretch true (Some text) octets pending = IsUsedUpTo text octets pending
-HoldsStretch false None octets pending = (octets ≡ []) × (pending ≡ [])
-HoldsStretch false (Some text) octets pending = (octets ≡ []) × (pending ≡ []) × HasFault text
+abbrev pub HoldsConnection : Bool → Connection → List ℕ → List Item → Type 0
+HoldsConnection true None octets pending = ⊥
+HoldsConnection true (Some text) octets pending = IsUsedUpTo text octets pending
+HoldsConnection false None octets pending = (octets ≡ []) × (pending ≡ [])
+HoldsConnection false (Some text) octets pending = (octets ≡ []) × (pending ≡ []) × HasFault text
 
 -- the session took the first items of these events, which had these effects; it has the state and the routes that they leave,
 -- holds the octets that they have not used, and counts the octets of all events
-pub record StandsFor (events : List Event) (effects : List Effect) (peering : Peering) : Type 0 where
+pub record StandsFor (events : List Event) (effects : List Effect) (peer : PeerState) : Type 0 where
   pub took : List Item
   pub pending : List Item
   pub items : AreItems events (took ++ pending)
-  pub runs : Runs peering.session.config took effects peering.session.state
-  pub counted : peering.session.items ≡ length effects
-  pub routes : HoldsAll effects peering.rib
-  pub stretch : HoldsStretch peering.intake.taking (stretch_at_end None events) (held peering.intake) pending
-  pub octets : peering.octets ≡ octet_count events
+  pub runs : Runs peer.session.config took effects peer.session.state
+  pub counted : peer.session.items ≡ length effects
+  pub routes : HoldsAll effects peer.routes
+  pub connection : HoldsConnection peer.receiving (connection_at_end None events) peer.held pending
+  pub octets : peer.octets ≡ octet_count events

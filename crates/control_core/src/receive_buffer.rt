@@ -2,7 +2,7 @@
 //! the front.
 ghost use Rattle.std.specs.Prelude.{◌≡◌, ◌<◌, ◌≤◌, ℕ, List, [], drop, length};
 ghost use Rattle.urpf_base.specs.Faults.{HasCause};
-ghost use Rattle.control_core.specs.Waiting.{Fills, FitsRoom};
+ghost use Rattle.control_core.specs.FeedCalls.{Fills, FitsRoom};
 
 use feed_io::{Feed, FeedEvent};
 use std::marker::Model;
@@ -13,13 +13,13 @@ const ROOM: usize = 4096;
 
 /// At most so many octets. Contracts see them as a list.
 #[derive(Drop)]
-pub struct Waiting {
+pub struct ReceiveBuffer {
     octets: [u8; ROOM],
     from: usize,
     to: usize,
 }
 
-impl Model for Waiting {
+impl Model for ReceiveBuffer {
     ghost use Rattle.std.specs.Prelude.{ℕ, ◌≤◌, List, drop, take};
 
     ghost Value = { List ℕ };
@@ -29,12 +29,12 @@ impl Model for Waiting {
     ghost invariant = { λ w. (w.from ≤ w.to) × (w.to ≤ 4096) };
 }
 
-impl Waiting {
+impl ReceiveBuffer {
     /// No octets.
-    pub fn new() -> Waiting
+    pub fn new() -> ReceiveBuffer
         ensures { result ≡ [] }
     {
-        Waiting {
+        ReceiveBuffer {
             octets: [0; ROOM],
             from: 0,
             to: 0,

@@ -1,17 +1,13 @@
 -- Where a run stops at a limit of its session. Our own choice.
-use Rattle.std.specs.Prelude.{◌≡◌, ◌⊎◌, ℕ, ◌-◌, ◌<◌, ◌≤◌, false, true, List, [], ◌∷◌, length, Option, Some, None}
+use Rattle.std.specs.Prelude.{◌≡◌, ◌⊎◌, ℕ, ◌-◌, ◌<◌, ◌≤◌, false, true, List, [], ◌∷◌, ◌++◌, length, Option, Some, None}
 use Rattle.feed_io.specs.Events.{Event}
 use Rattle.runbook.specs.declared.lines.BookLine.{BookLine}
 use Rattle.runbook.specs.declared.lines.BookLine.TheVariants.{Pull, Publish, Check}
-use Rattle.runbook.specs.Book.{IsBook}
 use Rattle.control_core.specs.declared.limits.TheConstants.{ITEM_LIMIT, OCTET_LIMIT}
-use Rattle.control_core.specs.Items.{Item, AreItems, octet_count}
+use Rattle.control_core.specs.Items.{Item, AreItems, SameButCuts, octet_count}
 use Rattle.control_core.specs.Pulls.{asks_more}
-use Rattle.control_core.specs.Waiting.{Gave}
-use Rattle.urpf_cli.specs.declared.status.Status.{Status}
-use Rattle.urpf_cli.specs.declared.status.Status.TheVariants.{Done, Usage, BadBook, TooLong, ReadFault, WriteFault, ItemLimit, OctetLimit, BadSession, Unsupported, OutOfMemory}
+use Rattle.control_core.specs.FeedCalls.{Gave}
 use Rattle.urpf_cli.specs.RunText.{Position}
-use Rattle.urpf_cli.specs.Running.{lines_in}
 
 -- the pulls of these lines ask for more than so many items
 abbrev pub AsksPast : List BookLine → ℕ → Type 0
@@ -46,40 +42,6 @@ pub record OfGiven (Fills : List Event → Type 0) (all : List Event) (left : Op
   pub told : Gave (Some all) gave left
   pub fills : Fills gave
 
--- a run of these lines is done where what its feed gave fills no limit, and stops at the limit that it fills
-abbrev pub EndsAtLimit : List Event → List BookLine → Option (List Event) → Status → Type 0
-EndsAtLimit all lines left Done = OfGiven (FillsNone lines) all left
-EndsAtLimit all lines left Usage = Unit {0}
-EndsAtLimit all lines left (BadBook line kind) = Unit {0}
-EndsAtLimit all lines left (TooLong object) = Unit {0}
-EndsAtLimit all lines left (ReadFault object) = Unit {0}
-EndsAtLimit all lines left WriteFault = Unit {0}
-EndsAtLimit all lines left (ItemLimit session) = OfGiven (FillsItems lines) all left
-EndsAtLimit all lines left (OctetLimit session) = OfGiven (FillsOctets lines) all left
-EndsAtLimit all lines left (BadSession code sub place) = Unit {0}
-EndsAtLimit all lines left (Unsupported place) = Unit {0}
-EndsAtLimit all lines left OutOfMemory = Unit {0}
-
--- the same of the run of a runbook's text
-pub record IsAtLimit (text : List ℕ) (all : List Event) (left : Option (List Event)) (status : Status) : Type 0 where
-  pub rows : List (ℕ × BookLine)
-  pub book : IsBook text rows
-  pub ends : EndsAtLimit all (lines_in rows) left status
-
--- a status that says whether a limit was reached
-abbrev pub TellsLimit : Status → Type 0
-TellsLimit Done = Unit {0}
-TellsLimit Usage = ⊥
-TellsLimit (BadBook line kind) = ⊥
-TellsLimit (TooLong object) = ⊥
-TellsLimit (ReadFault object) = ⊥
-TellsLimit WriteFault = ⊥
-TellsLimit (ItemLimit session) = Unit {0}
-TellsLimit (OctetLimit session) = Unit {0}
-TellsLimit (BadSession code sub place) = ⊥
-TellsLimit (Unsupported place) = ⊥
-TellsLimit OutOfMemory = ⊥
-
 -- a pull at a position reaches the limit of items, and asks for more
 pub record PullFillsItems (at : Position) (count : Option ℕ) (events : List Event) : Type 0 where
   pub items : List Item
@@ -106,16 +68,6 @@ pub record LineFills (Fills : Option ℕ → List Event → Type 0) (all : List 
   pub pulls : line ≡ Pull session count
   pub given : OfGiven (Fills count) all left
 
--- a line at a position stops at the limit that it reaches
-abbrev pub StopsAtLimit : List Event → Position → BookLine → Option (List Event) → Status → Type 0
-StopsAtLimit all at line left Done = Unit {0}
-StopsAtLimit all at line left Usage = Unit {0}
-StopsAtLimit all at line left (BadBook number kind) = Unit {0}
-StopsAtLimit all at line left (TooLong object) = Unit {0}
-StopsAtLimit all at line left (ReadFault object) = Unit {0}
-StopsAtLimit all at line left WriteFault = Unit {0}
-StopsAtLimit all at line left (ItemLimit session) = LineFills (PullFillsItems at) all line left
-StopsAtLimit all at line left (OctetLimit session) = LineFills (PullFillsOctets at) all line left
-StopsAtLimit all at line left (BadSession code sub place) = Unit {0}
-StopsAtLimit all at line left (Unsupported place) = Unit {0}
-StopsAtLimit all at line left OutOfMemory = Unit {0}
+-- the lines ask past no limit, however many of the events a feed gives
+abbrev pub StaysBelow : List BookLine → List Event → Type 0
+StaysBelow lines all = (gave rest : List Event) → SameButCuts all (gave ++ rest) → FillsNone lines gave

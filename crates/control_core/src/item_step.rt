@@ -5,7 +5,7 @@ ghost use Rattle.session_fsm.specs.declared.items.Effect.{Effect};
 ghost use Rattle.session_fsm.specs.Items.{IsWhole};
 ghost use Rattle.session_fsm.specs.Table.{is_established};
 ghost use Rattle.control_core.specs.Effects.{HoldsAll};
-ghost use Rattle.control_core.specs.Taking.{Changed, TookRow};
+ghost use Rattle.control_core.specs.ItemSteps.{Changed, TookRow};
 
 use crate::table::apply_update;
 use adj_rib::AdjRib;

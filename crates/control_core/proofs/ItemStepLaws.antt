@@ -17,7 +17,7 @@ use Rattle.session_fsm.specs.Table.{Outcome, Standing, Step, ended}
 use Rattle.control_core.specs.Effects.{HoldsSoMany, HoldsAll}
 use Rattle.control_core.specs.Table.{Applies}
 use Rattle.control_core.specs.Runs.{Limited}
-use Rattle.control_core.specs.Taking.{TookRow, Changed}
+use Rattle.control_core.specs.ItemSteps.{TookRow, Changed}
 use Rattle.control_core.proofs.Held.{holds_after_nothing, holds_after_advance, holds_after_reset, holds_after_update, holds_so_many}
 
 pub not_above : (maximum count : ℕ) → count ≤ maximum → nat_lt maximum count ≡ false

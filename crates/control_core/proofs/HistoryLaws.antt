@@ -16,12 +16,12 @@ use Rattle.session_fsm.specs.declared.items.Effect.{Effect}
 use Rattle.session_fsm.specs.declared.items.Item.TheVariants as fsm
 use Rattle.session_fsm.specs.declared.states.State.{State}
 use Rattle.session_fsm.specs.Table.{Outcome, Standing, Step}
-use Rattle.control_core.specs.declared.peering.Peering.{Peering}
-use Rattle.control_core.specs.Items.{Item, message, bad_header, Stretch, stretch_after, stretch_at_end, AreItemsOf, AreItems, octet_count}
+use Rattle.control_core.specs.States.{PeerState}
+use Rattle.control_core.specs.Items.{Item, message, bad_header, Connection, connection_after, connection_at_end, AreItemsOf, AreItems, octet_count}
 use Rattle.control_core.specs.Runs.{Takes, RunsFrom, Runs}
-use Rattle.control_core.specs.Standing.{held, HasFault, HoldsStretch, StandsFor}
-use Rattle.control_core.specs.Taking.{Came, TookRow}
-use Rattle.control_core.proofs.ItemLaws.{needed, needed_is, needed_only, needed_behind, none_needed, fault_needed, framed_behind, still_faulty, brought, items_after, are_items, only_items, items_after-append, stretch_at_end-append}
+use Rattle.control_core.specs.History.{HasFault, HoldsConnection, StandsFor}
+use Rattle.control_core.specs.ItemSteps.{Came, TookRow}
+use Rattle.control_core.proofs.ItemLaws.{needed, needed_is, needed_only, needed_behind, none_needed, fault_needed, framed_behind, still_faulty, brought, items_after, are_items, only_items, items_after-append, connection_at_end-append}
 
 -- one item after others
 pub runs_one_more : (config : SessionConfig) (before : List Effect) (state : State) (items : List Item) (item : Item) (effects : List Effect) (last : State) (outcome : Outcome)
@@ -40,58 +40,58 @@ takes_message old new whole kind body before routes reset is_kind is_body row =
     (row.row, (body, is_body, subst (λ (k : MsgKind). Step old.config old.state (fsm.Message k body) row.row) is_kind row.step), row.limited)
 
 -- what is the same of a session and its octets before an item and after it
-pub record SameBut (old new : Peering) : Type 0 where
+pub record SameBut (old new : PeerState) : Type 0 where
   pub config : new.session.config ≡ old.session.config
   pub items : new.session.items ≡ old.session.items + 1
   pub octets : new.octets ≡ old.octets
 
 -- the items that were taken and this one
-took_one : (old new : Peering) (took : List Item) (item : Item) (effects : List Effect) (outcome : Outcome) (reset : Option ResetCause)
+took_one : (old new : PeerState) (took : List Item) (item : Item) (effects : List Effect) (outcome : Outcome) (reset : Option ResetCause)
     → SameBut old new → Runs old.session.config took effects old.session.state
-    → Takes old.session.config effects old.session.state item outcome → Came outcome effects new.session new.rib reset
+    → Takes old.session.config effects old.session.state item outcome → Came outcome effects new.session new.routes reset
     → Runs new.session.config (took ++ item ∷ []) (effects ++ outcome.1 ∷ []) new.session.state
 took_one old new took item effects outcome reset same runs takes came =
     subst (λ (k : SessionConfig). Runs k (took ++ item ∷ []) (effects ++ outcome.1 ∷ []) new.session.state) (sym same.config)
     (subst (λ (s : State). Runs old.session.config (took ++ item ∷ []) (effects ++ outcome.1 ∷ []) s) (sym came.state)
     (runs_one_more old.session.config [] _ took item effects old.session.state outcome runs takes))
 
-counted_one : (old new : Peering) (effects : List Effect) (effect : Effect) → SameBut old new → old.session.items ≡ length effects → new.session.items ≡ length (effects ++ effect ∷ [])
+counted_one : (old new : PeerState) (effects : List Effect) (effect : Effect) → SameBut old new → old.session.items ≡ length effects → new.session.items ≡ length (effects ++ effect ∷ [])
 counted_one old new effects effect same counted = let one = same.items in omega (arith, counted, one, length-append effects (effect ∷ []))
 
 -- one more item of the octets that are held: the first of those still to be taken
-pub stands_after_pending : (events : List Event) (effects : List Effect) (old new : Peering) (outcome : Outcome) (reset : Option ResetCause) (item : Item) (later : List Item)
+pub stands_after_pending : (events : List Event) (effects : List Effect) (old new : PeerState) (outcome : Outcome) (reset : Option ResetCause) (item : Item) (later : List Item)
     → (stands : StandsFor events effects old) → SameBut old new → stands.pending ≡ item ∷ later
-    → Takes old.session.config effects old.session.state item outcome → Came outcome effects new.session new.rib reset
-    → HoldsStretch new.intake.taking (stretch_at_end None events) (held new.intake) later
+    → Takes old.session.config effects old.session.state item outcome → Came outcome effects new.session new.routes reset
+    → HoldsConnection new.receiving (connection_at_end None events) new.held later
     → StandsFor events (effects ++ outcome.1 ∷ []) new
-stands_after_pending events effects old new outcome reset item later stands same is takes came stretch = record {
+stands_after_pending events effects old new outcome reset item later stands same is takes came connection = record {
   took = stands.took ++ item ∷ [];
   pending = later;
   items = subst (AreItems events) (ap (λ (xs : List Item). stands.took ++ xs) is ∙ sym (append_assoc stands.took (item ∷ []) later)) stands.items;
   runs = took_one old new stands.took item effects outcome reset same stands.runs takes came;
   counted = counted_one old new effects outcome.1 same stands.counted;
   routes = came.holds;
-  stretch = stretch;
+  connection = connection;
   octets = same.octets ∙ stands.octets;
 }
 
 -- the items of one more event
-pub items_one_more : (events : List Event) (event : Event) (items : List Item) → AreItems events items → AreItems (events ++ event ∷ []) (items ++ brought (stretch_at_end None events) event)
+pub items_one_more : (events : List Event) (event : Event) (items : List Item) → AreItems events items → AreItems (events ++ event ∷ []) (items ++ brought (connection_at_end None events) event)
 unfolding items_after
 items_one_more events event items are =
-    let stretch = stretch_at_end None events in
-    let all : items_after None (events ++ event ∷ []) ≡ items ++ brought stretch event =
-    items_after-append None events (event ∷ []) ∙ ap (λ (xs : List Item). xs ++ items_after stretch (event ∷ [])) (sym (only_items None events items are)) ∙ ap (λ (xs : List Item). items ++ xs) (append-nil (brought stretch event)) in
+    let connection = connection_at_end None events in
+    let all : items_after None (events ++ event ∷ []) ≡ items ++ brought connection event =
+    items_after-append None events (event ∷ []) ∙ ap (λ (xs : List Item). xs ++ items_after connection (event ∷ [])) (sym (only_items None events items are)) ∙ ap (λ (xs : List Item). items ++ xs) (append-nil (brought connection event)) in
     subst (AreItems (events ++ event ∷ [])) all (are_items None (events ++ event ∷ []))
 
 -- an event that is an item, where none was still to be taken
-pub stands_after_event : (events : List Event) (event : Event) (effects : List Effect) (old new : Peering) (outcome : Outcome) (reset : Option ResetCause) (item : Item)
+pub stands_after_event : (events : List Event) (event : Event) (effects : List Effect) (old new : PeerState) (outcome : Outcome) (reset : Option ResetCause) (item : Item)
     → (stands : StandsFor events effects old) → SameBut old new → stands.pending ≡ []
-    → brought (stretch_at_end None events) event ≡ item ∷ [] → octet_count (events ++ event ∷ []) ≡ octet_count events
-    → Takes old.session.config effects old.session.state item outcome → Came outcome effects new.session new.rib reset
-    → HoldsStretch new.intake.taking (stretch_after (stretch_at_end None events) event) (held new.intake) []
+    → brought (connection_at_end None events) event ≡ item ∷ [] → octet_count (events ++ event ∷ []) ≡ octet_count events
+    → Takes old.session.config effects old.session.state item outcome → Came outcome effects new.session new.routes reset
+    → HoldsConnection new.receiving (connection_after (connection_at_end None events) event) new.held []
     → StandsFor (events ++ event ∷ []) (effects ++ outcome.1 ∷ []) new
-stands_after_event events event effects old new outcome reset item stands same is brings none takes came stretch = record {
+stands_after_event events event effects old new outcome reset item stands same is brings none takes came connection = record {
   took = stands.took ++ item ∷ [];
   pending = [];
   items =
@@ -101,20 +101,20 @@ stands_after_event events event effects old new outcome reset item stands same i
   runs = took_one old new stands.took item effects outcome reset same stands.runs takes came;
   counted = counted_one old new effects outcome.1 same stands.counted;
   routes = came.holds;
-  stretch = subst (λ (s : Stretch). HoldsStretch new.intake.taking s (held new.intake) []) (sym (stretch_at_end-append None events (event ∷ []))) stretch;
+  connection = subst (λ (s : Connection). HoldsConnection new.receiving s new.held []) (sym (connection_at_end-append None events (event ∷ []))) connection;
   octets = same.octets ∙ stands.octets ∙ sym none;
 }
 
 -- where the octets held are a part of a message, no item is still to be taken
-pub none_pending : (taking : Bool) (stretch : Stretch) (part : List ℕ) (pending : List Item) → IsShort part → HoldsStretch taking stretch part pending → pending ≡ []
+pub none_pending : (receiving : Bool) (connection : Connection) (part : List ℕ) (pending : List Item) → IsShort part → HoldsConnection receiving connection part pending → pending ≡ []
 none_pending true None part pending short holds = absurd holds
 none_pending true (Some text) part pending short holds = needed_only part pending holds.items ∙ none_needed part short
 none_pending false None part pending short holds = holds.1
 none_pending false (Some text) part pending short holds = holds.1
 
--- the stretch that has just begun
-pub stretch_begun : HoldsStretch true (Some []) [] []
-stretch_begun = record { used = []; parts = refl; each = tt; items = subst (AreItemsOf []) (none_needed [] (inl (lit< tt))) (needed_is []) }
+-- the connection that has just begun
+pub connection_begun : HoldsConnection true (Some []) [] []
+connection_begun = record { used = []; parts = refl; each = tt; items = subst (AreItemsOf []) (none_needed [] (inl (lit< tt))) (needed_is []) }
 
 -- octets begin with some, so they are not none
 some_octets : (front rest : List ℕ) (count : ℕ) → count ≤ length front → 0 < count → front ++ rest ≡ [] → ⊥
@@ -142,8 +142,8 @@ fault_behind text used behind subcode parts each faulty =
     })
 
 -- a message in front of the octets held is the first item still to be taken
-pub message_pending : (stretch : Stretch) (front rest : List ℕ) (pending : List Item) → (taking : Bool) → IsMessage front → HoldsStretch taking stretch (front ++ rest) pending
-    → (pending ≡ message front ∷ needed rest) × HoldsStretch taking stretch rest (needed rest)
+pub message_pending : (connection : Connection) (front rest : List ℕ) (pending : List Item) → (receiving : Bool) → IsMessage front → HoldsConnection receiving connection (front ++ rest) pending
+    → (pending ≡ message front ∷ needed rest) × HoldsConnection receiving connection rest (needed rest)
 message_pending None front rest pending true is holds = absurd holds
 message_pending (Some text) front rest pending true is holds = (
   needed_only (front ++ rest) pending holds.items ∙ ap (λ (t : List ℕ). needed (t ++ rest)) (sym (append-nil front)) ∙ needed_behind (front ∷ []) rest (is, tt),
@@ -158,8 +158,8 @@ message_pending None front rest pending false is holds = absurd (some_octets fro
 message_pending (Some text) front rest pending false is holds = absurd (some_octets front rest 19 is.header (lit< tt) holds.0)
 
 -- a faulty header in front of the octets held is the only item still to be taken
-pub fault_pending : (stretch : Stretch) (front rest : List ℕ) (pending : List Item) (subcode : ℕ) → (taking : Bool) → IsFaulty front subcode → HoldsStretch taking stretch (front ++ rest) pending
-    → (pending ≡ bad_header subcode ∷ []) × HoldsStretch false stretch [] []
+pub fault_pending : (connection : Connection) (front rest : List ℕ) (pending : List Item) (subcode : ℕ) → (receiving : Bool) → IsFaulty front subcode → HoldsConnection receiving connection (front ++ rest) pending
+    → (pending ≡ bad_header subcode ∷ []) × HoldsConnection false connection [] []
 fault_pending None front rest pending subcode true is holds = absurd holds
 fault_pending (Some text) front rest pending subcode true is holds = (
   needed_only (front ++ rest) pending holds.items ∙ fault_needed (front ++ rest) subcode (still_faulty front rest subcode is),

@@ -1,7 +1,7 @@
 use Rattle.std.proofs.lemmas.Result.{IfOk-weaker}
-use Rattle.control_core.proofs.TakingLaws.{took_nothing, took_advance, took_reset, took_change}
-use Rattle.control_core.specs.Taking.{TookRow, Changed}
-use Rattle.control_core.proofs.taking.take_item.Goals as goal
+use Rattle.control_core.proofs.ItemStepLaws.{took_nothing, took_advance, took_reset, took_change}
+use Rattle.control_core.specs.ItemSteps.{TookRow, Changed}
+use Rattle.control_core.proofs.item_step.take_item.Goals as goal
 
 pub returns-in-Nothing-clause-took : goal.returns-in-Nothing-clause-took
 returns-in-Nothing-clause-took c = took_nothing c.args.session.now c.step.new.self c.args.item c.args.rib.now c.in-Nothing.ensures.row

@@ -1,5 +1,5 @@
 -- Counts of faults over the calls of a function.
-use Rattle.std.proofs.Common.{◌≡◌, ℕ, ◌+◌, ◌≤◌, Result, Ok, Err, refl, sym, ◌∙◌, subst, arith}
+use Rattle.std.proofs.Common.{◌≡◌, ℕ, Result, Ok, Err, refl, ◌∙◌, subst, arith}
 use Rattle.urpf_base.specs.Faults.{Rose, HasCause, CountsFault}
 
 -- a count that stayed, where the call did not fail so

@@ -248,7 +248,7 @@ pub items_by_cuts : (events others : List Event) (items : List Item) → SameBut
 items_by_cuts events others items same are =
     subst (AreItems others) (sym (only_items None events items are ∙ same_items None events others same)) (are_items None others)
 
-rest_by_cuts : (events others : List Event) (count : ℕ) → SameButCuts events others → IsRest events count → IsRest others count
+pub rest_by_cuts : (events others : List Event) (count : ℕ) → SameButCuts events others → IsRest events count → IsRest others count
 rest_by_cuts events others count same is = subst (λ (s : Connection). LeavesOctets s count) (same_connection None events others same) is
 
 -- one cut more
@@ -279,3 +279,10 @@ front_items events later items all are whole = (
   items_after (connection_at_end None events) later,
   only_items None (events ++ later) all whole ∙ items_after-append None events later ∙ ap (λ (xs : List Item). xs ++ items_after (connection_at_end None events) later) (sym (only_items None events items are)),
 )
+
+-- a connection leaves some number of octets
+pub some_rest : (connection : Connection) → (count : ℕ) × LeavesOctets connection count
+some_rest None = (0, refl)
+some_rest (Some text) =
+    let f = has_framing text in
+    (left_behind f.end f.rest, (f, refl))

@@ -48,6 +48,15 @@ reset_lines-push session number (first ∷ effects) effect =
     ∙ sym (append_assoc (reset_text session (number + 1) (reset_of first)) (reset_lines session (number + 1) effects) (reset_text session (number + 1 + length effects + 1) (reset_of effect)))
     ∙ ap (λ (n : ℕ). reset_lines session number (first ∷ effects) ++ reset_text session n (reset_of effect)) same
 
+-- the lines of resets, and of those behind them
+pub reset_lines-append : (session number : ℕ) (effects later : List Effect) → reset_lines session number (effects ++ later) ≡ reset_lines session number effects ++ reset_lines session (number + length effects) later
+reset_lines-append session number [] later = ap (λ (n : ℕ). reset_lines session n later) (sym (add-zero number))
+reset_lines-append session number (first ∷ effects) later =
+    let same : number + 1 + length effects ≡ number + length (first ∷ effects) = omega arith in
+    ap (λ (t : List ℕ). reset_text session (number + 1) (reset_of first) ++ t) (reset_lines-append session (number + 1) effects later)
+    ∙ sym (append_assoc (reset_text session (number + 1) (reset_of first)) (reset_lines session (number + 1) effects) (reset_lines session (number + 1 + length effects) later))
+    ∙ ap (λ (n : ℕ). reset_lines session number (first ∷ effects) ++ reset_lines session n later) same
+
 -- how far a pull has come, from where it began
 pub record SoFar (session : ℕ) (events : List Event) (effects : List Effect) (old_left left : Option (List Event)) (old_held held : Option (List ℕ)) (now : PeerState) : Type 0 where
   pub gave : List Event
@@ -322,18 +331,19 @@ pulled_none events effects left held now stands ended =
 -- how a pull that met the end, or that took all that was asked for, ends
 pub ends_at_end : (count : Option ℕ) (limits : Limits) (old new : PeerState) (result : Result (Unit {0}) RunFault) → old.ended ≡ false → new.ended ≡ true → asks_more count (new.session.items - old.session.items) ≡ true → new.session.items < limits.items → new.octets < limits.octets → IfErr result (λ fault. fault ≡ WriteFault) → EndsBy count limits old new result
 ends_at_end count limits old new (Ok done) unmet ended asks items octets err = inr (unmet, inl (ended, asks, items, octets))
-ends_at_end count limits old new (Err fault) unmet ended asks items octets err = subst (λ (f : RunFault). EndsBy count limits old new (Err f)) (sym err) tt
+ends_at_end count limits old new (Err fault) unmet ended asks items octets err = subst (λ (f : RunFault). EndsBy count limits old new (Err f)) (sym err) (unmet, λ is. asks)
 
 -- a pull that memory ran out for, where it had come so far
-pub stopped_at : (events : List Event) (effects : List Effect) (old : PeerState) (old_left left : Option (List Event)) (old_held held : Option (List ℕ)) (now : PeerState) → now.session.config ≡ old.session.config
-    → SoFar old.number events effects old_left left old_held held now → Stopped events effects old old_left old_held held
-stopped_at events effects old old_left left old_held held now is far = record {
+pub stopped_at : (count : Option ℕ) (events : List Event) (effects : List Effect) (old : PeerState) (old_left left : Option (List Event)) (old_held held : Option (List ℕ)) (now : PeerState) → now.session.config ≡ old.session.config → TakesAtMost count old now
+    → SoFar old.number events effects old_left left old_held held now → Stopped count events effects old old_left old_held held
+stopped_at count events effects old old_left left old_held held now is most far = record {
   gave = far.gave;
   more = far.more;
   left = left;
   told = far.told;
   before = now;
   config = is;
+  most = most;
   stands = far.stands;
   wrote = far.wrote;
 }

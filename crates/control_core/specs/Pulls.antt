@@ -64,14 +64,20 @@ pub record Pulled (events : List Event) (effects : List Effect) (old_left new_le
   pub emptied : met_end old new ≡ true → IsEmptied old_left new_left × IsShort new.held
   pub wrote : Wrote result (IsPullText old.number (events ++ gave) effects more (met_end old new)) old_held new_held
 
--- a pull that memory ran out for had stood for so much, and a sink had taken the lines of the resets so far
-pub record Stopped (events : List Event) (effects : List Effect) (old : PeerState) (old_left : Option (List Event)) (old_held new_held : Option (List ℕ)) : Type 0 where
+-- no more items are taken than are asked for
+abbrev pub TakesAtMost : Option ℕ → PeerState → PeerState → Type 0
+TakesAtMost None old new = old.session.items ≤ new.session.items
+TakesAtMost (Some count) old new = (old.session.items ≤ new.session.items) × (new.session.items ≤ old.session.items + count)
+
+-- a pull that memory ran out for had stood for so much before, and a sink had taken the lines of the resets so far
+pub record Stopped (count : Option ℕ) (events : List Event) (effects : List Effect) (old : PeerState) (old_left : Option (List Event)) (old_held new_held : Option (List ℕ)) : Type 0 where
   pub gave : List Event
   pub more : List Effect
   pub left : Option (List Event)
   pub told : Gave old_left gave left
   pub before : PeerState
   pub config : before.session.config ≡ old.session.config
+  pub most : TakesAtMost count old before
   pub stands : StandsFor (events ++ gave) (effects ++ more) before
   pub wrote : Appends old_held new_held (reset_lines old.number (length effects) more)
 
@@ -86,7 +92,7 @@ EndsBy count limits old new (Ok done) =
     ⊎ ((new.ended ≡ false) × (asks_more count (new.session.items - old.session.items) ≡ false))))
 EndsBy count limits old new (Err (ReadFault session)) =
     (session ≡ old.number) × IsAsked count old new × (new.session.items < limits.items) × (new.octets < limits.octets) × IsShort new.held
-EndsBy count limits old new (Err WriteFault) = Unit {0}
+EndsBy count limits old new (Err WriteFault) = (old.ended ≡ false) × (new.ended ≡ true → asks_more count (new.session.items - old.session.items) ≡ true)
 EndsBy count limits old new (Err (ItemLimit session)) = (session ≡ old.number) × IsAsked count old new × (limits.items ≤ new.session.items)
 EndsBy count limits old new (Err (OctetLimit session)) =
     (session ≡ old.number) × IsAsked count old new × (new.session.items < limits.items) × (limits.octets ≤ new.octets) × IsShort new.held
@@ -96,15 +102,10 @@ EndsBy count limits old new (Err OutOfMemory) = Unit {0}
 abbrev pub StaysWithin : Limits → PeerState → PeerState → Type 0
 StaysWithin limits old new = (old.session.items ≤ limits.items → new.session.items ≤ limits.items) × (old.octets ≤ limits.octets → new.octets ≤ limits.octets)
 
--- no more items are taken than are asked for
-abbrev pub TakesAtMost : Option ℕ → PeerState → PeerState → Type 0
-TakesAtMost None old new = old.session.items ≤ new.session.items
-TakesAtMost (Some count) old new = (old.session.items ≤ new.session.items) × (new.session.items ≤ old.session.items + count)
-
 -- a pull: what it took and wrote, of whatever events the session stood for, how it ended, and what it stayed within
 pub record Pull (count : Option ℕ) (limits : Limits) (old_left new_left : Option (List Event)) (old_held new_held : Option (List ℕ)) (result : Result (Unit {0}) RunFault) (old new : PeerState) : Type 0 where
   pub pulled : (events : List Event) (effects : List Effect) → StandsFor events effects old → HadMemory result → Pulled events effects old_left new_left old_held new_held result old new
-  pub stopped : (events : List Event) (effects : List Effect) → StandsFor events effects old → result ≡ Err OutOfMemory → Stopped events effects old old_left old_held new_held
+  pub stopped : (events : List Event) (effects : List Effect) → StandsFor events effects old → result ≡ Err OutOfMemory → Stopped count events effects old old_left old_held new_held
   pub ends : EndsBy count limits old new result
   pub most : TakesAtMost count old new
   pub within : StaysWithin limits old new

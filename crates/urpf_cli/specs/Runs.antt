@@ -5,7 +5,6 @@ use Rattle.std.specs.Io.KnownBytes.{Appends}
 use Rattle.feed_io.specs.Events.{Event}
 use Rattle.session_fsm.specs.declared.items.Effect.{Effect}
 use Rattle.runbook.specs.declared.lines.BookLine.{BookLine}
-use Rattle.runbook.specs.Book.{IsBook}
 use Rattle.control_core.specs.declared.limits.Limits.{Limits}
 use Rattle.control_core.specs.declared.limits.RunFault.{RunFault}
 use Rattle.control_core.specs.declared.limits.RunFault.TheVariants.{ReadFault, WriteFault, ItemLimit, OctetLimit, OutOfMemory}
@@ -116,19 +115,3 @@ RanBook run lines (Err fault) left old new = TookFront (IsRunText run.inputs lin
 -- the lines of a runbook without their numbers
 abbrev pub lines_in : List (ℕ × BookLine) → List BookLine
 lines_in rows = map (λ row. row.1) rows
-
--- what the run of a runbook's text over these events comes to
-pub record RanText (text : List ℕ) (all : List Event) (result : Result (Unit {0}) RunFault) (left : Option (List Event)) (old new : Option (List ℕ)) : Type 0 where
-  pub rows : List (ℕ × BookLine)
-  pub book : IsBook text rows
-  pub run : Run
-  pub same : run.all ≡ all
-  pub ran : RanBook run (lines_in rows) result left old new
-
--- the sink took a front of the run of this text over these events
-pub record TookRunFront (text : List ℕ) (all : List Event) (old new : Option (List ℕ)) : Type 0 where
-  pub rows : List (ℕ × BookLine)
-  pub book : IsBook text rows
-  pub run : Run
-  pub same : run.all ≡ all
-  pub took : TookFront (IsRunText run.inputs (lines_in rows)) old new

@@ -1,11 +1,11 @@
 -- The status that tells what a command came to. Our own choice.
-use Rattle.std.specs.Prelude.{◌≡◌, ◌⊎◌, ℕ, Result, Ok, Err}
+use Rattle.std.specs.Prelude.{◌≡◌, ◌⊎◌, Result, Ok, Err}
 use Rattle.control_core.specs.declared.limits.RunFault.{RunFault}
 use Rattle.control_core.specs.declared.limits.RunFault.TheVariants as fault
 use Rattle.urpf_cli.specs.CheckOne.{CheckEnd, judged, unreadable}
 use Rattle.urpf_cli.specs.CheckOne as check
-use Rattle.urpf_cli.specs.Offline.{Refusal, refused_line}
-use Rattle.urpf_cli.specs.Offline as offline
+use Rattle.urpf_cli.specs.declared.opening.Refusal.{Refusal}
+use Rattle.urpf_cli.specs.declared.opening.Refusal.TheVariants as opening
 use Rattle.urpf_cli.specs.Runs.{NamesSession}
 use Rattle.urpf_cli.specs.declared.session.SessionFault.{SessionFault}
 use Rattle.urpf_cli.specs.declared.session.SessionFault.TheVariants as stream
@@ -35,9 +35,11 @@ IsCheckStatus status = ((end : CheckEnd) × (status ≡ status_of_check end))
 
 -- why a run did not begin
 abbrev pub status_of_refusal : Refusal → Status
-status_of_refusal offline.misused = Usage
-status_of_refusal offline.too_long = TooLong Book
-status_of_refusal (refused_line line kind) = BadBook line kind
+status_of_refusal opening.Misused = Usage
+status_of_refusal opening.ReadFault = ReadFault Book
+status_of_refusal opening.TooLong = TooLong Book
+status_of_refusal (opening.BadBook fault) = BadBook fault.line fault.kind
+status_of_refusal opening.OutOfMemory = OutOfMemory
 
 -- what a run came to
 abbrev pub status_of_run : Result (Unit {0}) RunFault → Status
@@ -48,7 +50,7 @@ status_of_run (Err (fault.ItemLimit session)) = ItemLimit session
 status_of_run (Err (fault.OctetLimit session)) = OctetLimit session
 status_of_run (Err fault.OutOfMemory) = OutOfMemory
 
--- a status that a run of session 0 may end with: a refusal, a failed read of the runbook, or what a run comes to
+-- a status that a run of session 0 may end with: a refusal, or what a run comes to
 abbrev pub IsRunStatus : Status → Type 0
 IsRunStatus status = ((refusal : Refusal) × (status ≡ status_of_refusal refusal))
-    ⊎ ((status ≡ ReadFault Book) ⊎ ((status ≡ Done) ⊎ ((fault : RunFault) × NamesSession 0 fault × (status ≡ status_of_run (Err fault)))))
+    ⊎ ((status ≡ Done) ⊎ ((fault : RunFault) × NamesSession 0 fault × (status ≡ status_of_run (Err fault))))

@@ -81,12 +81,7 @@ pub fn check_one<S: Source, K: Sink>(
 }
 
 /// Writes the line for the source into the empty line, or says why the stream cannot be read.
-fn judge(
-    alloc: Global,
-    stream: &[u8],
-    source: &Addr,
-    line: &mut Line,
-) -> Result<(), SessionFault>
+fn judge(alloc: Global, stream: &[u8], source: &Addr, line: &mut Line) -> Result<(), SessionFault>
     requires { line.old ≡ [] }
     ensures ok { OnOk result (IsCheckLine stream.now source.now line.new) }
     ensures err { IfErr result (HasFaultOrMemory stream.now) }

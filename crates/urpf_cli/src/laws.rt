@@ -5,7 +5,7 @@ ghost use Rattle.runbook.specs.declared.lines.BookLine.{BookLine};
 ghost use Rattle.urpf_cli.specs.RunText.{Inputs, IsRunText};
 
 use crate::check::STREAM_OCTETS;
-use crate::offline::BOOK_OCTETS;
+use crate::opening::BOOK_OCTETS;
 use crate::run::{HOLD_SECONDS, MAX_PREFIXES, PEER_AS};
 use crate::session::{MESSAGE_HEADER_ERROR, UPDATE_MESSAGE_ERROR};
 

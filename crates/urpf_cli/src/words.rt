@@ -50,6 +50,17 @@ fn check_source(words: &[String]) -> Option<Addr>
     Some(addr)
 }
 
+/// Whether the words ask for `offline`.
+pub fn asks_offline(words: &[String]) -> bool
+    ensures { IsTrue result ↔ AreOfflineWords (map string_bytes words.now) }
+{
+    match read_command(words) {
+        Some(Command::Offline) => true,
+        Some(Command::Check { .. }) => false,
+        None => false,
+    }
+}
+
 /// Whether the words are those of `offline BOOK TRACE`.
 fn are_offline(words: &[String]) -> bool
     ensures { IsTrue result ↔ AreOfflineWords (map string_bytes words.now) }

@@ -1,4 +1,4 @@
-use Rattle.std.proofs.Common.{◌≡◌, ◌-◌, ◌<◌, ℕ, Bool, true, false, Ok, Err, refl, sym, ap, subst, ◌∙◌, arith, take, inr}
+use Rattle.std.proofs.Common.{◌≡◌, ◌-◌, ◌<◌, ℕ, true, false, Ok, Err, refl, sym, ap, subst, ◌∙◌, arith, take, inr}
 use Rattle.std.specs.Io.KnownBytes.{Appends}
 use Rattle.report_text.specs.Lines.{end_line}
 use Rattle.control_core.specs.Peers.{peer_of}
@@ -52,7 +52,7 @@ returns-in-Err-tell_reset-clause-pull g c =
           pulled_cut events effects _ _ _ _ _ c.in-Err-tell_reset.fault (peer_of c.args.peering.now) (peer_of c.turn.new.self) c.in-Ok-Took.reset cut.0 err one (counts.2 ∙ c.loop-count.invariant.unmet)
           (subst (λ (n : ℕ). Appends (g.K.Sink.held c.loop-count.out) (g.K.Sink.held c.tell_reset.new.out) (take cut.0 (reset_text c.args.peering.now.number n c.in-Ok-Took.reset))) c.items-in-Ok-Took.ensures cut.2);
       stopped = λ events effects stands memory. absurd (had_memory (Err c.in-Err-tell_reset.fault) (subst (λ (f : RunFault). HadMemory {T = Unit {0}} (Err f)) (sym err) tt) memory);
-      ends = subst (λ (f : RunFault). EndsBy c.args.count c.args.limits.now (peer_of c.args.peering.now) (peer_of c.turn.new.self) (Err f)) (sym err) tt;
+      ends = subst (λ (f : RunFault). EndsBy c.args.count c.args.limits.now (peer_of c.args.peering.now) (peer_of c.turn.new.self) (Err f)) (sym err) (c.requires.unmet, λ is. let clash : true ≡ false = sym is ∙ counts.2 ∙ c.loop-count.invariant.unmet in cc);
       most = takes_more c.args.count (peer_of c.args.peering.now) (peer_of c.loop-count.peering) (peer_of c.turn.new.self) c.loop-count.invariant.most asks counts.0;
       within = (λ begun. omega (arith, counts.0, c.if-limits-items.false, c.items-in-loop-count.ensures), λ begun. omega (arith, counts.1, c.loop-count.invariant.within.1 begun));
       number = c.in-Ok-Took.ensures.number ∙ c.loop-count.invariant.number;
@@ -132,7 +132,7 @@ returns-in-Err-clause-pull g c =
           let far = c.loop-count.invariant.so_far events effects stands in
           pulled_until events effects _ _ _ _ _ c.in-Err.fault (peer_of c.args.peering.now) (peer_of c.loop-count.peering) (peer_of c.turn.new.self) c.args.limits.now far (c.in-Err.ensures.stands _ _ far.stands memory) c.loop-count.invariant.unmet c.in-Err.ensures.counts memory;
       stopped = λ events effects stands memory.
-          stopped_at events effects (peer_of c.args.peering.now) _ _ _ _ (peer_of c.loop-count.peering) c.loop-count.invariant.config (c.loop-count.invariant.so_far events effects stands);
+          stopped_at c.args.count events effects (peer_of c.args.peering.now) _ _ _ _ (peer_of c.loop-count.peering) c.loop-count.invariant.config c.loop-count.invariant.most (c.loop-count.invariant.so_far events effects stands);
       ends = ends_until c.args.count c.in-Err.fault (peer_of c.args.peering.now) (peer_of c.loop-count.peering) (peer_of c.turn.new.self) c.args.limits.now (subst (λ (n : ℕ). IsTurnFault n c.in-Err.fault) c.loop-count.invariant.number c.in-Err.ensures.fault) c.requires.unmet c.loop-count.invariant.unmet asks few c.in-Err.ensures.counts;
       most = takes_until c.args.count c.in-Err.fault (peer_of c.args.peering.now) (peer_of c.loop-count.peering) (peer_of c.turn.new.self) c.args.limits.now c.loop-count.invariant.most asks c.in-Err.ensures.counts;
       within = stays_until c.in-Err.fault (peer_of c.args.peering.now) (peer_of c.loop-count.peering) (peer_of c.turn.new.self) c.args.limits.now c.loop-count.invariant.within few c.in-Err.ensures.counts;

@@ -1,7 +1,7 @@
 use Rattle.std.proofs.Common.{◌∷◌, [], refl}
 use Rattle.report_text.specs.Lines.{publish_line}
 use Rattle.urpf_cli.proofs.Runs.{head_parts, head_written, head_cut_first, head_cut_second}
-use Rattle.urpf_cli.proofs.whole.open_run.Goals as goal
+use Rattle.urpf_cli.proofs.run.open_run.Goals as goal
 
 pub returns-in-Err-clause-front : goal.returns-in-Err-clause-front
 returns-in-Err-clause-front g c =

@@ -1,39 +1,29 @@
-use Rattle.std.proofs.Common.{[], sym, ◌∙◌}
-use Rattle.std.proofs.lemmas.List.{append-nil}
-use Rattle.urpf_cli.specs.RunText.{head_text}
-use Rattle.urpf_cli.specs.Running.{lines_in}
-use Rattle.urpf_cli.proofs.Limiting.{none_filled}
-use Rattle.urpf_cli.proofs.Openings.{opened_stands}
-use Rattle.urpf_cli.proofs.Pulling.{on_ok}
-use Rattle.urpf_cli.proofs.Runs.{head_front, lines_front, closing_wrote, closing_front}
-use Rattle.urpf_cli.proofs.whole.run_book.Goals as goal
+use Rattle.urpf_cli.specs.Runs.{lines_in}
+use Rattle.urpf_cli.proofs.Openings.{opened_at}
+use Rattle.urpf_cli.proofs.RanLines.{book_ran, write_stops}
+use Rattle.urpf_cli.proofs.Runs.{head_front, head_whole, lines_front}
+use Rattle.urpf_cli.proofs.run.run_book.Goals as goal
 
-pub returns-in-Err-clause-front : goal.returns-in-Err-clause-front
-returns-in-Err-clause-front g c = λ events inputs left informs.
-    head_front inputs (lines_in c.args.book.now) (g.K.Sink.held c.args.out.now) (g.K.Sink.held c.open_run.new.out) c.in-Err.ensures.front
+pub returns-in-Err-clause-ran : goal.returns-in-Err-clause-ran
+returns-in-Err-clause-ran g c = λ run left. (
+  head_front run.inputs (lines_in c.args.book.now) (g.K.Sink.held c.args.out.now) (g.K.Sink.held c.open_run.new.out) c.in-Err.ensures.front,
+  write_stops run (lines_in c.args.book.now) (g.F.Feed.left c.args.feed.now) c.in-Err.fault c.in-Err.ensures.err,
+)
 
-pub returns-in-Err-open_control-clause-front : goal.returns-in-Err-open_control-clause-front
-returns-in-Err-open_control-clause-front g c = λ events inputs left informs.
-    head_front inputs (lines_in c.args.book.now) (g.K.Sink.held c.args.out.now) (g.K.Sink.held c.open_run.new.out) (head_text, [], sym (append-nil head_text), c.in_default.ensures.ok)
+pub returns-in-Err-open_control-clause-ran : goal.returns-in-Err-open_control-clause-ran
+returns-in-Err-open_control-clause-ran g c = λ run left. (
+  head_front run.inputs (lines_in c.args.book.now) (g.K.Sink.held c.args.out.now) (g.K.Sink.held c.open_run.new.out) (head_whole (g.K.Sink.held c.args.out.now) (g.K.Sink.held c.open_run.new.out) c.in_default.ensures.ok),
+  tt,
+)
 
-pub returns-in-Err-take_lines-clause-front : goal.returns-in-Err-take_lines-clause-front
-returns-in-Err-take_lines-clause-front g c = λ events inputs left informs.
-    lines_front inputs (lines_in c.args.book.now) (g.K.Sink.held c.args.out.now) (g.K.Sink.held c.open_run.new.out) (g.K.Sink.held c.take_lines.new.out) c.in_default.ensures.ok
-    (c.in-Err-take_lines.ensures.front events inputs informs (opened_stands events inputs c.in-Ok.control (g.F.Feed.left c.args.feed.now) c.in-Ok.ensures left))
+pub returns-in-Err-take_lines-clause-ran : goal.returns-in-Err-take_lines-clause-ran
+returns-in-Err-take_lines-clause-ran g c = λ run left.
+    let ran = c.in-Err-take_lines.ensures.ran run (opened_at run c.in-Ok.control (g.F.Feed.left c.args.feed.now) c.in-Ok.ensures left) in
+    (lines_front run.inputs (lines_in c.args.book.now) (g.K.Sink.held c.args.out.now) (g.K.Sink.held c.open_run.new.out) (g.K.Sink.held c.take_lines.new.out) c.in_default.ensures.ok ran.0, ran.1)
 
-pub returns-clause-ok : goal.returns-clause-ok
-returns-clause-ok g c = λ events inputs left informs.
-    let opened = opened_stands events inputs c.in-Ok.control (g.F.Feed.left c.args.feed.now) c.in-Ok.ensures left in
-    let ended = c.in_default-take_lines.ensures.stands events inputs informs opened in
-    closing_wrote c.offer.result inputs (lines_in c.args.book.now) c.number.result c.put_done.new.to (g.K.Sink.held c.args.out.now) (g.K.Sink.held c.open_run.new.out) (g.K.Sink.held c.take_lines.new.out) (g.K.Sink.held c.offer.new.out) c.in_default.ensures.ok (c.in_default-take_lines.ensures.gave events inputs informs opened) c.put_done.ensures (c.number.ensures ∙ ended.number) c.offer.ensures.ok
-
-pub returns-clause-front : goal.returns-clause-front
-returns-clause-front g c = λ events inputs left informs.
-    let opened = opened_stands events inputs c.in-Ok.control (g.F.Feed.left c.args.feed.now) c.in-Ok.ensures left in
-    let ended = c.in_default-take_lines.ensures.stands events inputs informs opened in
-    closing_front c.offer.result inputs (lines_in c.args.book.now) c.number.result c.put_done.new.to (g.K.Sink.held c.args.out.now) (g.K.Sink.held c.open_run.new.out) (g.K.Sink.held c.take_lines.new.out) (g.K.Sink.held c.offer.new.out) c.in_default.ensures.ok (c.in_default-take_lines.ensures.gave events inputs informs opened) c.put_done.ensures (c.number.ensures ∙ ended.number) c.offer.ensures.cut_short
-
-pub returns-clause-unlimited : goal.returns-clause-unlimited
-returns-clause-unlimited g c = λ events inputs left informs.
-    let opened = opened_stands events inputs c.in-Ok.control (g.F.Feed.left c.args.feed.now) c.in-Ok.ensures left in
-    on_ok c.offer.result (none_filled events inputs (lines_in c.args.book.now) c.take_lines.new.control (g.F.Feed.left c.take_lines.new.feed) informs (c.in_default-take_lines.ensures.stands events inputs informs opened))
+pub returns-clause-ran : goal.returns-clause-ran
+returns-clause-ran g c = λ run left.
+    book_ran run (lines_in c.args.book.now) c.number.result c.put_done.new.to c.offer.result c.take_lines.new.control (g.F.Feed.left c.take_lines.new.feed)
+    (g.K.Sink.held c.args.out.now) (g.K.Sink.held c.open_run.new.out) (g.K.Sink.held c.take_lines.new.out) (g.K.Sink.held c.offer.new.out) c.in_default.ensures.ok
+    (c.in_default-take_lines.ensures.ran run (opened_at run c.in-Ok.control (g.F.Feed.left c.args.feed.now) c.in-Ok.ensures left))
+    c.put_done.ensures c.number.ensures c.offer.ensures.ok c.offer.ensures.cut_short c.offer.ensures.err

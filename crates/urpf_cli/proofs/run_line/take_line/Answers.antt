@@ -1,16 +1,6 @@
-use Rattle.urpf_cli.proofs.steps.take_line.Goals as goal
+use Rattle.urpf_cli.proofs.RanLines.{pull_ran}
+use Rattle.urpf_cli.proofs.run_line.take_line.Goals as goal
 
-pub returns-in-Publish-clause-gave : goal.returns-in-Publish-clause-gave
-returns-in-Publish-clause-gave g c = λ inputs all at informs stands. rw c.in-Publish.is (c.publish.ensures.gave inputs all at _ informs stands)
-
-pub returns-in-Publish-clause-front : goal.returns-in-Publish-clause-front
-returns-in-Publish-clause-front g c = λ inputs all at informs stands. rw c.in-Publish.is (c.publish.ensures.front inputs all at _ informs stands)
-
-pub returns-in-Check-clause-gave : goal.returns-in-Check-clause-gave
-returns-in-Check-clause-gave g c = λ inputs all at informs stands. rw c.in-Check.is (c.check.ensures.gave inputs all at _ informs stands)
-
-pub returns-in-Check-clause-front : goal.returns-in-Check-clause-front
-returns-in-Check-clause-front g c = λ inputs all at informs stands. rw c.in-Check.is (c.check.ensures.front inputs all at _ informs stands)
-
-pub returns-in-Pull-clause-limited : goal.returns-in-Pull-clause-limited
-returns-in-Pull-clause-limited g c = λ inputs all at informs stands. rw c.in-Pull.is (c.pull.ensures.limited inputs all at _ informs stands)
+pub returns-in-Pull-clause-ran : goal.returns-in-Pull-clause-ran
+returns-in-Pull-clause-ran g c = λ run at is.
+    rw c.in-Pull.is (pull_ran run at _ c.in-Pull.count c.pull.result c.args.control.now c.pull.new.self (g.F.Feed.left c.args.feed.now) (g.F.Feed.left c.pull.new.feed) (g.K.Sink.held c.args.out.now) (g.K.Sink.held c.pull.new.out) is c.pull.ensures.pull c.pull.ensures.kept c.pull.ensures.memory)

@@ -39,14 +39,16 @@ gap_lacks_slash text groups is =
     let colon : 58 ≢ 47 = λ e. omega (arith, e) in
     subst (LacksByte 47) (sym is.parts) (lacks_append 47 is.before (58 ∷ 58 ∷ is.after)
     (groups_lack_slash is.before is.left is.first)
-    (lacks_cons 47 58 (58 ∷ is.after) colon (lacks_cons 47 58 is.after colon (groups_lack_slash is.after is.right is.last))))
+    (lacks_cons 47 58 (58 ∷ is.after) colon
+    (lacks_cons 47 58 is.after colon (groups_lack_slash is.after is.right is.last))))
 
 octet_lacks_slash : (a : ℕ) → a < 256 → LacksByte 47 (decimal a)
 octet_lacks_slash a small = decimal_lacks a 47 (omega arith) (λ within. omega arith)
 
 part_lacks_slash : (a : ℕ) (rest : List ℕ) → a < 256 → LacksByte 47 rest → LacksByte 47 (decimal a ++ (46 ∷ rest))
 part_lacks_slash a rest small more =
-    lacks_append 47 (decimal a) (46 ∷ rest) (octet_lacks_slash a small) (lacks_cons 47 46 rest (λ e. omega (arith, e)) more)
+    lacks_append 47 (decimal a) (46 ∷ rest) (octet_lacks_slash a small)
+    (lacks_cons 47 46 rest (λ e. omega (arith, e)) more)
 
 dotted_lacks_slash : (n : ℕ) → LacksByte 47 (dotted n)
 dotted_lacks_slash n =

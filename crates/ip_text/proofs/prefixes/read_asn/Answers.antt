@@ -11,7 +11,8 @@ no_letter a (inl is) number small e =
 no_letter a (inr is) number small e =
     decimal_lacks number 97 (omega arith) (λ within. omega arith) 0 (starts_decimal number (omega arith)).0 (e ∙ is)
 
-behind : (text : List ℕ) (number a s : ℕ) → get_or text 0 0 ≡ a → AreAs a s → SpellsAsn text number → drop 2 text ≡ decimal number
+behind : (text : List ℕ) (number a s : ℕ) → get_or text 0 0 ≡ a → AreAs a s
+    → SpellsAsn text number → drop 2 text ≡ decimal number
 behind text number a s first are (small, inl e) =
     absurd (no_letter a are.0 number small (ap (λ t. get_or t 0 0) (sym e) ∙ first))
 behind text number a s first are (small, inr (b, d, letters, e)) = ap (drop 2) e

@@ -3,6 +3,7 @@
 #![tactic(auto)]
 
 mod adapters;
+mod fault_count;
 mod feeds;
 mod laws;
 mod limited;

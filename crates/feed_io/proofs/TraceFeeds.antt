@@ -3,13 +3,13 @@ use Rattle.std.proofs.Common.{◌≡◌, ℕ, ◌+◌, ◌-◌, ◌^◌, ◌<◌
 use Rattle.std.proofs.Math.Seq.{take-append-add, drop-append-add}
 use Rattle.std.specs.Io.KnownBytes.{Consumes, Keeps}
 use Rattle.feed_io.specs.Events.{Event, octets, Gives, GivesNext}
-use Rattle.feed_io.specs.Traces.{head_length, said_by, piece_front, body_front, event_front, trace_events, owed_head}
-use Rattle.feed_io.specs.Reading.{events_left, Moves, Moved, Stops}
+use Rattle.feed_io.specs.Traces.{head_length, head_event, piece_front, body_front, event_front, trace_events, owed_head}
+use Rattle.feed_io.specs.TraceFeeds.{events_left, Moves, Moved, Stops}
 use Rattle.feed_io.specs.declared.feeds.FeedEvent.{FeedEvent}
 use Rattle.feed_io.specs.declared.feeds.FeedEvent.TheVariants as given
 use Rattle.feed_io.specs.declared.limited.TheConstants.{TRACE_OCTETS}
-use Rattle.feed_io.specs.declared.trace_head.Said.{Said}
-use Rattle.feed_io.specs.declared.trace_head.Said.TheVariants.{Octets}
+use Rattle.feed_io.specs.declared.trace_head.HeadEvent.{HeadEvent}
+use Rattle.feed_io.specs.declared.trace_head.HeadEvent.TheVariants.{Octets}
 use Rattle.feed_io.proofs.Fronts.{front_whole, events_found, owed_events}
 
 -- ---- what moved into the head
@@ -40,12 +40,12 @@ found_goes_on m e f whole seen (inl off) = absurd (none_is_not e _ (ap event_fro
 found_goes_on m e f whole seen (inr more) = absurd (none_is_not f _ (ap event_front (seen_same m) ∙ seen) more.none)
 
 -- the head says an event without octets of its own
-pub goes_on : (said : Said) (e : Event) → ((text : List ℕ) → body_front said text ≡ Some (e, text))
-    → (old new : Option (List ℕ)) (taken count : ℕ) (held now : List ℕ) → Moved old taken held new count now → length now ≡ head_length now → said_by now ≡ said
+pub goes_on : (kind : HeadEvent) (e : Event) → ((text : List ℕ) → body_front kind text ≡ Some (e, text))
+    → (old new : Option (List ℕ)) (taken count : ℕ) (held now : List ℕ) → Moved old taken held new count now → length now ≡ head_length now → head_event now ≡ kind
     → IfSome old (λ text. Stops taken held text → false ≡ true)
-goes_on said e finds None new taken count held now moved whole says = tt
-goes_on said e finds (Some text) None taken count held now moved whole says = absurd moved
-goes_on said e finds (Some text) (Some rest) taken count held now m whole says =
+goes_on kind e finds None new taken count held now moved whole says = tt
+goes_on kind e finds (Some text) None taken count held now moved whole says = absurd moved
+goes_on kind e finds (Some text) (Some rest) taken count held now m whole says =
     let seen = take (TRACE_OCTETS - count) rest in
     found_goes_on m (e, rest) (e, seen) (front_whole now rest whole ∙ ap (λ s. body_front s rest) says ∙ finds rest) (front_whole now seen whole ∙ ap (λ s. body_front s seen) says ∙ finds seen)
 
@@ -55,7 +55,7 @@ piece_found n [] some = absurd (omega (arith, some))
 piece_found n (b ∷ text) some = refl
 
 -- the head says octets, one of them is there, and it may be read
-pub piece_goes_on : (old mid new : Option (List ℕ)) (taken count n : ℕ) (held now piece : List ℕ) → Moved old taken held mid count now → length now ≡ head_length now → said_by now ≡ Octets n
+pub piece_goes_on : (old mid new : Option (List ℕ)) (taken count n : ℕ) (held now piece : List ℕ) → Moved old taken held mid count now → length now ≡ head_length now → head_event now ≡ Octets n
     → Consumes mid new piece → 0 < length piece → count < TRACE_OCTETS → IfSome old (λ text. Stops taken held text → false ≡ true)
 piece_goes_on None mid new taken count n held now piece moved whole says consumed some room = tt
 piece_goes_on (Some text) None new taken count n held now piece moved whole says consumed some room = absurd moved
@@ -79,18 +79,18 @@ gives_none e (Some text) (Some mid) (Some rest) taken count held now buffer m ke
     ap (λ t. trace_events (now ++ t)) keeps ∙ ap trace_events (sym (trace_same m))
 
 -- the event of a whole head is given and taken away
-pub gives_one : (E : Type 0) (event : FeedEvent) (said : Said) (e : Event) (buffer : List ℕ) → ((before after : List Event) → before ≡ e ∷ after → Gives event buffer before after)
-    → ((text : List ℕ) → body_front said text ≡ Some (e, text)) → (old new : Option (List ℕ)) (taken count : ℕ) (held now : List ℕ) → Moved old taken held new count now
-    → length now ≡ head_length now → said_by now ≡ said → GivesNext {E = E} (events_left held old) (events_left [] new) (Ok event) buffer
-gives_one E event said e buffer gives finds None new taken count held now moved whole says = tt
-gives_one E event said e buffer gives finds (Some text) None taken count held now moved whole says = absurd moved
-gives_one E event said e buffer gives finds (Some text) (Some rest) taken count held now m whole says =
+pub gives_one : (E : Type 0) (event : FeedEvent) (kind : HeadEvent) (e : Event) (buffer : List ℕ) → ((before after : List Event) → before ≡ e ∷ after → Gives event buffer before after)
+    → ((text : List ℕ) → body_front kind text ≡ Some (e, text)) → (old new : Option (List ℕ)) (taken count : ℕ) (held now : List ℕ) → Moved old taken held new count now
+    → length now ≡ head_length now → head_event now ≡ kind → GivesNext {E = E} (events_left held old) (events_left [] new) (Ok event) buffer
+gives_one E event kind e buffer gives finds None new taken count held now moved whole says = tt
+gives_one E event kind e buffer gives finds (Some text) None taken count held now moved whole says = absurd moved
+gives_one E event kind e buffer gives finds (Some text) (Some rest) taken count held now m whole says =
     gives _ _
     (ap trace_events (trace_same m) ∙ events_found (now ++ rest) rest e (front_whole now rest whole ∙ ap (λ s. body_front s rest) says ∙ finds rest))
 
 -- a part of the octets is given and taken away
 pub gives_part : (E : Type 0) (old mid new : Option (List ℕ)) (taken count n k : ℕ) (held now buffer : List ℕ) → Moved old taken held mid count now → length now ≡ head_length now
-    → said_by now ≡ Octets n → Consumes mid new (take k buffer) → 1 ≤ k → k ≤ n → k ≤ length buffer → n < 2 ^ 16
+    → head_event now ≡ Octets n → Consumes mid new (take k buffer) → 1 ≤ k → k ≤ n → k ≤ length buffer → n < 2 ^ 16
     → GivesNext {E = E} (events_left held old) (events_left (owed_head (n - k)) new) (Ok (given.Octets k)) buffer
 gives_part E None mid new taken count n k held now buffer moved whole says consumed some upto fits small = tt
 gives_part E (Some text) None new taken count n k held now buffer moved whole says consumed some upto fits small = absurd moved

@@ -1,9 +1,28 @@
 -- What a feed over a trace has left, and where it can go no further. Our own choice.
-use Rattle.std.specs.Prelude.{◌≡◌, ◌⊎◌, ℕ, ◌+◌, ◌-◌, ◌≤◌, List, ◌++◌, length, take, Option, Some, None}
+use Rattle.std.specs.Prelude.{◌≡◌, ◌⊎◌, ℕ, ◌+◌, ◌-◌, ◌≤◌, Bool, List, ◌++◌, length, take, Option, Some, None, refl}
+use Rattle.std.specs.Coded.{Coded, code_by, coded×, coded_list, coded_ℕ, coded_bool}
 use Rattle.std.specs.Option.{option_map}
 use Rattle.feed_io.specs.Events.{Event}
-use Rattle.feed_io.specs.Traces.{event_front, trace_events, IsOff}
+use Rattle.feed_io.specs.Traces.{event_front, trace_events, IsMalformed}
 use Rattle.feed_io.specs.declared.limited.TheConstants.{TRACE_OCTETS}
+
+-- a source, how many of its octets were read, those of the next event's head, whether a call failed, and how many did
+pub record TraceState (S : Type 0) : Type 0 where
+  pub source : S
+  pub taken : ℕ
+  pub head : List ℕ
+  pub failed : Bool
+  pub faults : ℕ
+
+module _ {S : Type 0} where
+  -- a state is stored as the tuple of its fields
+  abbrev pub state_code : Coded S → Coded (TraceState S)
+  state_code source_code =
+      code_by (S × (ℕ × (List ℕ × (Bool × ℕ))))
+      (coded× source_code (coded× coded_ℕ (coded× (coded_list coded_ℕ) (coded× coded_bool coded_ℕ))))
+      (λ f. (f.source, (f.taken, (f.head, (f.failed, f.faults)))))
+      (λ p. record { source = p.0; taken = p.1.0; head = p.1.1.0; failed = p.1.1.1.0; faults = p.1.1.1.1 })
+      (λ _. refl)
 
 -- the events of what was read of the next event and of what the source has left, where that is told
 abbrev pub events_left : List ℕ → Option (List ℕ) → Option (List Event)
@@ -36,4 +55,4 @@ pub record NeedsMore (taken : ℕ) (held text : List ℕ) : Type 0 where
 
 -- no event can be given: the trace is off its format here, or more octets are needed than may be read
 abbrev pub Stops : ℕ → List ℕ → List ℕ → Type 0
-Stops taken held text = IsOff (held ++ text) ⊎ NeedsMore taken held text
+Stops taken held text = IsMalformed (held ++ text) ⊎ NeedsMore taken held text

@@ -2,7 +2,7 @@
 use Rattle.std.proofs.Common.{◌≡◌, ◌⊎◌, inl, inr, ℕ, zero, suc, ◌<◌, ◌≤◌, Bool, true, false, List, [], ◌∷◌, length, drop, Option, Some, None, IfSome, refl, slice_index, arith}
 use Rattle.std.proofs.lemmas.Bool.{cases_lt}
 use Rattle.std.proofs.lemmas.Bool.Decides.{eqb_tells}
-use Rattle.bgp_attr.specs.Numbers.{number_of}
+use Rattle.byteorder.specs.Endian.{big_number}
 use Rattle.urpf_base.specs.Lists.{Has}
 use Rattle.urpf_base.specs.Series.{SpellsAll, ReadsFront}
 use Rattle.urpf_base.proofs.Series.{spells-more, spells-less, spells_nothing, rest_shorter}
@@ -112,7 +112,7 @@ is_reach value =
 fits : (width : Width) (v6 : Bool) (type : AttributeType) (value : List ℕ) → Told ((row width v6 type).Fits value)
 fits width v6 Origin value = at_most (slice_index value 0) 2
 fits width v6 AsPath value = series (segment_front width) (segment_reads width) value
-fits width v6 NextHop value = both (opposite (same_number (number_of 4 value) 0)) (less (slice_index value 0) 224)
+fits width v6 NextHop value = both (opposite (same_number (big_number 4 value) 0)) (less (slice_index value 0) 224)
 fits width v6 MultiExitDisc value = inl tt
 fits width v6 LocalPref value = inl tt
 fits width v6 AtomicAggregate value = inl tt

@@ -1,7 +1,7 @@
 -- The table of attributes: the flags, the length and the value that each type asks for (RFC 4271, sections 4.3, 5 and 6.3; RFC 4760, sections 3, 4 and 7; RFC 6793, section 3).
 use Rattle.std.specs.Prelude.{◌≡◌, ◌≢◌, ◌⊎◌, ◌≤◌, ◌<◌, ℕ, ◌+◌, Bool, true, false, ◌&&◌, ◌==◌, IsTrue, List, [], ◌∷◌, length, drop, slice_index, find, Option, Some, None}
 use Rattle.std.specs.Option.{option_map_or}
-use Rattle.bgp_attr.specs.Numbers.{number_of}
+use Rattle.byteorder.specs.Endian.{big_number}
 use Rattle.urpf_base.specs.Address.{Block}
 use Rattle.bgp_nlri.specs.Nlri.{SpellsPrefixes}
 use Rattle.bgp_nlri.specs.declared.family.Family.TheVariants as family
@@ -22,11 +22,11 @@ IsAsPath width value = (segments : List Segment) × IsPath width value segments
 
 -- NEXT_HOP is not 0.0.0.0, and of no class past that of hosts (RFC 4271, section 6.3)
 abbrev pub IsNextHop : List ℕ → Type 0
-IsNextHop value = (number_of 4 value ≢ 0) × (slice_index value 0 < 224)
+IsNextHop value = (big_number 4 value ≢ 0) × (slice_index value 0 < 224)
 
 -- address family 2 and subsequent address family 1 are IPv6 unicast (RFC 4760, sections 3 and 6)
 abbrev pub is_ipv6_unicast : List ℕ → Bool
-is_ipv6_unicast value = (number_of 2 value == 2) && (slice_index value 2 == 1)
+is_ipv6_unicast value = (big_number 2 value == 2) && (slice_index value 2 == 1)
 
 -- a multiprotocol attribute of another family, or from a peer that did not list IPv6 unicast, is passed over
 abbrev pub is_heeded : Bool → List ℕ → Bool

@@ -1,6 +1,6 @@
 -- The faults of an UPDATE's body, and which of them counts (RFC 4271, section 6.3).
 use Rattle.std.specs.Prelude.{◌≡◌, ◌⊎◌, ◌<◌, ℕ, ◌+◌, Bool, List, [], ◌∷◌, length, drop}
-use Rattle.bgp_attr.specs.Numbers.{number_of}
+use Rattle.byteorder.specs.Endian.{big_number}
 use Rattle.urpf_base.specs.Address.{Block}
 use Rattle.urpf_base.specs.RouteUpdates.{RouteUpdate}
 use Rattle.bgp_nlri.specs.Nlri.{SpellsPrefixes}
@@ -15,11 +15,11 @@ use Rattle.bgp_update.specs.Update.{HasMandatory, IsUpdate}
 
 -- the length of the withdrawn routes, in the first two octets
 abbrev pub withdrawn_length : List ℕ → ℕ
-withdrawn_length body = number_of 2 body
+withdrawn_length body = big_number 2 body
 
 -- the length of the path attributes, in the two octets after the withdrawn routes
 abbrev pub attributes_length : List ℕ → ℕ
-attributes_length body = number_of 2 (drop (2 + withdrawn_length body) body)
+attributes_length body = big_number 2 (drop (2 + withdrawn_length body) body)
 
 -- the withdrawn routes, or they and the path attributes, are longer than the body without its two lengths
 abbrev pub AreTooLong : List ℕ → Type 0

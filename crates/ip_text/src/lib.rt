@@ -11,6 +11,3 @@ mod reading;
 pub use numbers::read_number;
 pub use printing::{put_addr, put_number};
 pub use reading::read_addr;
-
-#[cfg(test)]
-mod tests;

@@ -14,8 +14,8 @@ mod updates;
 pub use faults::{BROKEN_MARKER, HEADER_OF_18, NO_ORIGIN, OPEN_OF_VERSION_3, ROUTE_REFRESH};
 pub use opens::{KEEPALIVE, NOTIFICATION, OPEN, OPEN_OF_64502, OPEN_TWO_OCTET};
 pub use updates::{
-    ANNOUNCE, ANNOUNCE_IPV6, COMMUNITIES, END_OF_RIB, END_OF_RIB_IPV6, TWO_PREFIXES, WITHDRAW,
-    WITHDRAW_AND_ANNOUNCE,
+    ANNOUNCE, ANNOUNCE_BOTH_FAMILIES, ANNOUNCE_IPV6, COMMUNITIES, END_OF_RIB, END_OF_RIB_IPV6,
+    TWO_PREFIXES, WITHDRAW, WITHDRAW_AND_ANNOUNCE, WITHDRAW_BOTH_FAMILIES,
 };
 
 /// The octets of a header: marker, length and type (RFC 4271, section 4.1).
@@ -31,6 +31,3 @@ pub fn body(message: &[u8]) -> &[u8]
 {
     &message[HEADER_OCTETS..]
 }
-
-#[cfg(test)]
-mod tests;

@@ -9,7 +9,7 @@ use Rattle.bgp_update.specs.Faults.{HasOutcome}
 use Rattle.bgp_update.proofs.OutcomeLaws.{has_outcome, never_both, fault_once}
 use Rattle.bgp_update.proofs.UpdateLaws.{one_update}
 use Rattle.urpf_base.specs.declared.sessions.ResetCause.TheVariants.{Fault}
-use Rattle.session_fsm.specs.declared.codes.TheConstants.{UPDATE_MESSAGE_ERROR}
+use Rattle.bgp_update.specs.declared.subcodes.TheConstants.{UPDATE_MESSAGE_ERROR}
 use Rattle.urpf_base.specs.declared.sessions.SessionConfig.{SessionConfig}
 use Rattle.session_fsm.specs.declared.items.Item.{Item}
 use Rattle.session_fsm.specs.declared.items.Item.TheVariants.{Up, Message, HeaderFault, Down, Elapsed}

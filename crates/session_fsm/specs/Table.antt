@@ -8,7 +8,10 @@ use Rattle.bgp_update.specs.Update.{IsUpdate}
 use Rattle.bgp_update.specs.Faults.{IsFaultOf}
 use Rattle.urpf_base.specs.declared.sessions.ResetCause.{ResetCause}
 use Rattle.urpf_base.specs.declared.sessions.ResetCause.TheVariants.{Fault, Closed}
-use Rattle.session_fsm.specs.declared.codes.TheConstants.{MESSAGE_HEADER_ERROR, OPEN_MESSAGE_ERROR, UPDATE_MESSAGE_ERROR, HOLD_TIMER_EXPIRED, FINITE_STATE_MACHINE_ERROR, UNSPECIFIC}
+use Rattle.bgp_wire.specs.declared.header.TheConstants.{MESSAGE_HEADER_ERROR}
+use Rattle.bgp_open.specs.declared.faults.TheConstants.{OPEN_MESSAGE_ERROR}
+use Rattle.bgp_update.specs.declared.subcodes.TheConstants.{UPDATE_MESSAGE_ERROR}
+use Rattle.session_fsm.specs.declared.codes.TheConstants.{HOLD_TIMER_EXPIRED, FINITE_STATE_MACHINE_ERROR, UNSPECIFIC}
 use Rattle.urpf_base.specs.declared.sessions.SessionConfig.{SessionConfig}
 use Rattle.session_fsm.specs.declared.items.Item.{Item}
 use Rattle.session_fsm.specs.declared.items.Item.TheVariants.{Up, Message, HeaderFault, Down, Elapsed}

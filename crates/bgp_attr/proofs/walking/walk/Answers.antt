@@ -26,8 +26,8 @@ returns-in-Ok-clause-only c attributes are =
     let same = good.2 ∙ ap values_of (one_list c.args.width c.args.v6 c.args.field.now good.0 attributes good.1 are) in
     subst (λ (v : Values). TellsValues c.args.width c.args.v6 v c.attrs_from.result) same c.attrs_from.ensures
 
-pub returns-in-Ok-clause-fault_only : goal.returns-in-Ok-clause-fault_only
-returns-in-Ok-clause-fault_only c sub fault =
+pub returns-in-Ok-clause-only_fault : goal.returns-in-Ok-clause-only_fault
+returns-in-Ok-clause-only_fault c sub fault =
     no_fault c.args.width c.args.v6 c.args.field.now c.in-Ok.ensures.good.0 sub c.in-Ok.ensures.good.1 fault
 
 pub returns-in-Ok-clause-reach : goal.returns-in-Ok-clause-reach
@@ -44,6 +44,6 @@ pub returns-in-Err-clause-only : goal.returns-in-Err-clause-only
 returns-in-Err-clause-only c attributes are =
     no_fault c.args.width c.args.v6 c.args.field.now attributes c.in-Err.fault.sub are c.in-Err.ensures.fault
 
-pub returns-in-Err-clause-fault_only : goal.returns-in-Err-clause-fault_only
-returns-in-Err-clause-fault_only c sub fault =
+pub returns-in-Err-clause-only_fault : goal.returns-in-Err-clause-only_fault
+returns-in-Err-clause-only_fault c sub fault =
     one_fault c.args.width c.args.v6 c.args.field.now c.in-Err.fault.sub sub c.in-Err.ensures.fault fault

@@ -9,12 +9,14 @@ cut_attribute flags code count text = (attribute_of flags code (take count text)
 
 -- none where there are too few octets for the value
 abbrev pub attribute_of_length : ℕ → ℕ → ℕ → List ℕ → Option (Attribute × List ℕ)
-attribute_of_length flags code count text = if nat_lt (length text) count then None else Some (cut_attribute flags code count text)
+attribute_of_length flags code count text =
+    if nat_lt (length text) count then None else Some (cut_attribute flags code count text)
 
 -- none where there are too few octets for the length
 abbrev pub attribute_after : ℕ → ℕ → ℕ → List ℕ → Option (Attribute × List ℕ)
 attribute_after flags code octets text =
-    if nat_lt (length text) octets then None else attribute_of_length flags code (big_number octets text) (drop octets text)
+    if nat_lt (length text) octets then None
+    else attribute_of_length flags code (big_number octets text) (drop octets text)
 
 -- the first attribute of a field, and what is left of the field
 abbrev pub attribute_front : List ℕ → Option (Attribute × List ℕ)

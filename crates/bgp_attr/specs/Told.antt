@@ -1,5 +1,6 @@
 -- What a list of attributes tells the router.
-use Rattle.std.specs.Prelude.{◌≡◌, ◌<◌, ℕ, Bool, ◌==◌, if◌then◌else◌, is_some, List, [], length, drop, Option, Some, None, option_map}
+use Rattle.std.specs.Prelude.{◌≡◌, ◌<◌, ℕ, Bool, ◌==◌, if◌then◌else◌, is_some, List, [], length, drop, Option, Some}
+use Rattle.std.specs.Prelude.{None, option_map}
 use Rattle.byteorder.specs.Endian.{big_number}
 use Rattle.as_path.specs.declared.widths.Width.{Width}
 use Rattle.as_path.specs.declared.widths.Width.TheVariants.{Two, Four}
@@ -32,7 +33,8 @@ TellsAs4 Two (Some value) path = TellsAs4Path value path
 abbrev pub aggregator_in : Width → Option (List ℕ) → Option ℕ
 aggregator_in width value = option_map (big_number (octets_per width)) value
 
--- AS4_AGGREGATOR is discarded where it has not 8 octets, and from a peer of four-octet AS numbers (RFC 6793, sections 4.1 and 6)
+-- AS4_AGGREGATOR is discarded where it has not 8 octets, and from a peer of four-octet AS numbers (RFC 6793, sections
+-- 4.1 and 6)
 abbrev pub as4_aggregator_in : Width → Option (List ℕ) → Option ℕ
 as4_aggregator_in Four value = None
 as4_aggregator_in Two None = None

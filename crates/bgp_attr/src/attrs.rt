@@ -6,7 +6,8 @@ ghost use Rattle.std.specs.Option.{ForSome};
 ghost use Rattle.as_path.specs.Path.{octets_per};
 ghost use Rattle.bgp_attr.specs.Slots.{AreFit};
 ghost use Rattle.bgp_attr.specs.Table.{IsAsPath, IsMpReach, IsMpUnreach};
-ghost use Rattle.bgp_attr.specs.Told.{TellsPath, TellsAs4, TellsValues, aggregator_in, as4_aggregator_in, reach_in, unreach_in};
+ghost use Rattle.bgp_attr.specs.Told.{TellsPath, TellsAs4, TellsValues, aggregator_in, as4_aggregator_in, reach_in};
+ghost use Rattle.bgp_attr.specs.Told.{unreach_in};
 
 use crate::slots::Slots;
 use crate::values::{is_heeded, reach_place};

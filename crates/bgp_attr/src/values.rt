@@ -3,7 +3,8 @@
 ghost use Rattle.std.specs.Prelude.{◌≡◌, ◌↔◌, ◌≤◌, ◌⊎◌, IsTrue, List, length, slice_index};
 ghost use Rattle.byteorder.specs.Endian.{big_number};
 ghost use Rattle.bgp_attr.specs.Faults.{HasLength};
-ghost use Rattle.bgp_attr.specs.Table.{row, IsOrigin, IsAsPath, IsNextHop, IsMpReach, IsMpUnreach, IsReach, is_ipv6_unicast, is_heeded, reach_place};
+ghost use Rattle.bgp_attr.specs.Table.{row, IsOrigin, IsAsPath, IsNextHop, IsMpReach, IsMpUnreach, IsReach};
+ghost use Rattle.bgp_attr.specs.Table.{is_ipv6_unicast, is_heeded, reach_place};
 
 use crate::types::AttributeType;
 use as_path::{PathView, Width};

@@ -1,5 +1,6 @@
 -- The trace format: the events of a session one after the other, to the end of the text. Our own choice.
-use Rattle.std.specs.Prelude.{◌≡◌, ℕ, ◌<◌, ◌≤◌, ◌==◌, nat_lt, if◌then◌else◌, List, [], ◌∷◌, length, take, drop, Option, Some, None}
+use Rattle.std.specs.Prelude.{◌≡◌, ℕ, ◌<◌, ◌≤◌, ◌==◌, nat_lt, if◌then◌else◌, List, [], ◌∷◌, length, take, drop, Option}
+use Rattle.std.specs.Prelude.{Some, None}
 use Rattle.byteorder.specs.Endian.{big_number, big_bytes}
 use Rattle.urpf_base.specs.Series.{values_in}
 use Rattle.feed_io.specs.Events.{Event, up, octets, down, elapsed}
@@ -52,9 +53,12 @@ body_front (Elapsed seconds) text = Some (elapsed seconds, text)
 
 -- the first event of a trace and the octets behind it; none where it is off the format or empty
 abbrev pub event_front : List ℕ → Option (Event × List ℕ)
-event_front text = if nat_lt (length text) (head_length text) then None else body_front (head_event text) (drop (head_length text) text)
+event_front text =
+    if nat_lt (length text) (head_length text) then None
+    else body_front (head_event text) (drop (head_length text) text)
 
--- the events of a trace up to its end, or to where it is off the format; of a broken octets event the octets that are there
+-- the events of a trace up to its end, or to where it is off the format; of a broken octets event the octets that are
+-- there
 abbrev pub trace_events : List ℕ → List Event
 trace_events text = values_in event_front text
 

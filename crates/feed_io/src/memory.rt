@@ -2,7 +2,8 @@
 //!
 //! They tell what they have left and what they hold. `MemSource` and `MemSink` fail at the calls of
 //! a list, `SureSource` and `SureSink` never.
-ghost use Rattle.std.specs.Prelude.{◌≡◌, ◌⊎◌, ◌-◌, ◌<◌, ◌↔◌, [], length, vec_capacity, drop, take, min, Contains, IsErr, IfOk, IsOkAnd, Some, None};
+ghost use Rattle.std.specs.Prelude.{◌≡◌, ◌⊎◌, ◌-◌, ◌<◌, ◌↔◌, [], length, vec_capacity, drop, take, min, Contains};
+ghost use Rattle.std.specs.Prelude.{IsErr, IfOk, IsOkAnd, Some, None};
 ghost use Rattle.std.specs.Io.{ReadsAtMost, WritesAtMost};
 ghost use Rattle.std.specs.Io.KnownBytes.{ReadConsumes, WriteAppends};
 ghost use Rattle.urpf_base.specs.Faults.{HasCause};

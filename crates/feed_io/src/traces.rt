@@ -2,7 +2,8 @@
 //!
 //! Over a broken trace it gives the whole events before the break, then the octets that are there of
 //! a broken octets event, and then it fails. After one failure every later call fails.
-ghost use Rattle.std.specs.Prelude.{◌≡◌, ◌⊎◌, ◌+◌, ◌-◌, ◌<◌, ◌≤◌, ℕ, [], ◌++◌, length, option_map, take, IfOk, IfSome, IsErr, OnErr, OnOk, Ok, true, false};
+ghost use Rattle.std.specs.Prelude.{◌≡◌, ◌⊎◌, ◌+◌, ◌-◌, ◌<◌, ◌≤◌, ℕ, [], ◌++◌, length, option_map, take, IfOk, IfSome};
+ghost use Rattle.std.specs.Prelude.{IsErr, OnErr, OnOk, Ok, true, false};
 ghost use Rattle.std.specs.Io.KnownBytes.{Consumes, IsAtEnd, Keeps};
 ghost use Rattle.urpf_base.specs.Faults.{HasCause, Rose};
 ghost use Rattle.feed_io.specs.Events.{GivesAtMost, GivesNext};

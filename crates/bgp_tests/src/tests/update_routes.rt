@@ -144,15 +144,20 @@ const ROWS: [Row; 12] = [
     },
 ];
 
+/// The message of the row is read as the row says.
+fn is_read(rt: &impl Abort, row: &Row) -> Result<(), Fail> {
+    assert!(rt; row.message.len() >= 19, "{}", row.name);
+    let update = read(rt, body(row.message), Width::Four, row.v6).map_err(|_| "no fault")?;
+    withdraws(rt, row.name, &update, row.withdrawn);
+    announces(rt, row.name, &update, row.announced);
+    assert_eq!(rt; update.origin(), row.origin, "{}", row.name);
+    Ok(())
+}
+
 #[test]
 fn routes_are_withdrawn_and_announced_in_their_order(rt: HostRuntime) -> Result<(), Fail> {
     for row in ROWS {
-        assert!(rt; row.message.len() >= 19, "{}", row.name);
-        let octets = body(row.message);
-        let update = read(&rt, octets, Width::Four, row.v6).map_err(|_| "no fault")?;
-        withdraws(&rt, row.name, &update, row.withdrawn);
-        announces(&rt, row.name, &update, row.announced);
-        assert_eq!(rt; update.origin(), row.origin, "{}", row.name);
+        is_read(&rt, &row)?;
     }
     Ok(())
 }

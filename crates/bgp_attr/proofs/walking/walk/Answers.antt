@@ -15,7 +15,8 @@ ArePrefixes field = (prefixes : List Block) × SpellsPrefixes family.V6 field pr
 are_fit : (c : In-Ok) → AreFit c.args.width c.args.v6 c.in-Ok.slots
 are_fit c =
     let good = c.in-Ok.ensures.good in
-    subst (λ (v : Values). AreFit c.args.width c.args.v6 v) (sym good.2) (values_fit c.args.width c.args.v6 good.0 good.1.proper)
+    subst (λ (v : Values). AreFit c.args.width c.args.v6 v) (sym good.2)
+    (values_fit c.args.width c.args.v6 good.0 good.1.proper)
 
 pub attrs_from-requires : goal.attrs_from-requires
 attrs_from-requires c = are_fit (goal.at.attrs_from-requires c).In-Ok
@@ -38,7 +39,8 @@ returns-in-Ok-clause-reach c =
 pub returns-in-Ok-clause-unreach : goal.returns-in-Ok-clause-unreach
 returns-in-Ok-clause-unreach c =
     let fit = are_fit (goal.at.returns-in-Ok-clause-unreach c).In-Ok in
-    subst ArePrefixes (sym c.attrs_from.ensures.unreach) (unreach_in-prefixes c.args.v6 c.in-Ok.slots.unreach fit.unreach)
+    subst ArePrefixes (sym c.attrs_from.ensures.unreach)
+    (unreach_in-prefixes c.args.v6 c.in-Ok.slots.unreach fit.unreach)
 
 pub returns-in-Err-clause-only : goal.returns-in-Err-clause-only
 returns-in-Err-clause-only c attributes are =

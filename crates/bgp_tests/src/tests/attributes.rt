@@ -2,7 +2,6 @@
 use as_path::{Aggregators, Width, origin_of};
 use bgp_attr::{AttrFault, walk};
 use std::process::Abort;
-use std::test::Fail;
 
 /// ORIGIN, an AS_PATH of 64501 in four octets, NEXT_HOP 192.0.2.1.
 const PLAIN: &[u8] = b"\x40\x01\x01\x00\
@@ -20,41 +19,38 @@ const PASSED_OVER: &[u8] = b"\xC0\x08\x04\xFB\xF5\x00\x64\
     \x80\x63\x00";
 
 #[test]
-fn plain_attributes_tell_origin_path_and_next_hop(rt: HostRuntime) -> Result<(), Fail> {
-    let attrs = walk(PLAIN, Width::Four, true).map_err(|_| "well formed")?;
+fn plain_attributes_tell_origin_path_and_next_hop(rt: HostRuntime) {
+    let attrs = walk(PLAIN, Width::Four, true).expect(&rt, "well formed");
     assert!(rt; attrs.has_origin && attrs.has_next_hop);
-    let path = attrs.path.ok_or("AS_PATH is there")?;
+    let path = attrs.path.expect(&rt, "AS_PATH is there");
     assert_eq!(rt; origin_of(&path, None, attrs.aggregators), Some(64501));
     assert!(rt; attrs.reach.is_empty() && attrs.unreach.is_empty());
-    Ok(())
 }
 
 #[test]
-fn attributes_without_a_row_are_passed_over(rt: HostRuntime) -> Result<(), Fail> {
-    let attrs = walk(PASSED_OVER, Width::Four, true).map_err(|_| "well formed")?;
+fn attributes_without_a_row_are_passed_over(rt: HostRuntime) {
+    let attrs = walk(PASSED_OVER, Width::Four, true).expect(&rt, "well formed");
     assert!(rt; !attrs.has_origin && !attrs.has_next_hop && attrs.path.is_none());
-    let attrs = walk(b"", Width::Four, true).map_err(|_| "well formed")?;
+    let attrs = walk(b"", Width::Four, true).expect(&rt, "well formed");
     assert!(rt; !attrs.has_origin && !attrs.has_next_hop && attrs.path.is_none());
-    Ok(())
 }
 
 #[test]
-fn ipv6_prefixes_are_told_where_the_peer_listed_them(rt: HostRuntime) -> Result<(), Fail> {
+fn ipv6_prefixes_are_told_where_the_peer_listed_them(rt: HostRuntime) {
     let prefix = b"\x20\x20\x01\x0D\xB8".as_slice();
-    let attrs = walk(WIDE, Width::Four, true).map_err(|_| "well formed")?;
+    let attrs = walk(WIDE, Width::Four, true).expect(&rt, "well formed");
     assert_eq!(rt; attrs.reach, prefix);
-    let attrs = walk(WIDE, Width::Four, false).map_err(|_| "well formed")?;
+    let attrs = walk(WIDE, Width::Four, false).expect(&rt, "well formed");
     assert!(rt; attrs.reach.is_empty());
     let end_of_rib = b"\x90\x0F\x00\x03\x00\x02\x01";
-    let attrs = walk(end_of_rib, Width::Four, true).map_err(|_| "well formed")?;
+    let attrs = walk(end_of_rib, Width::Four, true).expect(&rt, "well formed");
     assert!(rt; attrs.unreach.is_empty());
     let withdrawn = b"\x80\x0F\x08\x00\x02\x01\x20\x20\x01\x0D\xB8";
-    let attrs = walk(withdrawn, Width::Four, true).map_err(|_| "well formed")?;
+    let attrs = walk(withdrawn, Width::Four, true).expect(&rt, "well formed");
     assert_eq!(rt; attrs.unreach, prefix);
     let ipv4 = b"\x80\x0F\x04\x00\x01\x01\x00";
-    let attrs = walk(ipv4, Width::Four, true).map_err(|_| "well formed")?;
+    let attrs = walk(ipv4, Width::Four, true).expect(&rt, "well formed");
     assert!(rt; attrs.unreach.is_empty());
-    Ok(())
 }
 
 /// AS_PATH 64501 23456, AS4_PATH 100000, AGGREGATOR of 23456, AS4_AGGREGATOR of 100000.
@@ -64,10 +60,10 @@ const MERGED: &[u8] = b"\x40\x02\x06\x02\x02\xFB\xF5\x5B\xA0\
     \xC0\x12\x08\x00\x01\x86\xA0\xC0\x00\x02\x01";
 
 #[test]
-fn a_peer_of_two_octets_tells_both_paths(rt: HostRuntime) -> Result<(), Fail> {
-    let attrs = walk(MERGED, Width::Two, false).map_err(|_| "well formed")?;
-    let path = attrs.path.ok_or("AS_PATH is there")?;
-    let as4 = attrs.as4.ok_or("AS4_PATH is there")?;
+fn a_peer_of_two_octets_tells_both_paths(rt: HostRuntime) {
+    let attrs = walk(MERGED, Width::Two, false).expect(&rt, "well formed");
+    let path = attrs.path.expect(&rt, "AS_PATH is there");
+    let as4 = attrs.as4.expect(&rt, "AS4_PATH is there");
     let both = Aggregators {
         own: Some(23456),
         four: Some(100_000),
@@ -75,11 +71,10 @@ fn a_peer_of_two_octets_tells_both_paths(rt: HostRuntime) -> Result<(), Fail> {
     assert_eq!(rt; attrs.aggregators, both);
     assert_eq!(rt; origin_of(&path, Some(&as4), both), Some(100_000));
     let empty = b"\xC0\x11\x00\xC0\x12\x04\x00\x01\x86\xA0";
-    let attrs = walk(empty, Width::Two, false).map_err(|_| "discarded")?;
+    let attrs = walk(empty, Width::Two, false).expect(&rt, "discarded");
     assert!(rt; attrs.as4.is_none() && attrs.aggregators.four.is_none());
     let attrs = walk(b"\xC0\x11\x06\x02\x01\x00\x01\x86\xA0", Width::Four, false);
-    assert!(rt; attrs.map_err(|_| "discarded")?.as4.is_none());
-    Ok(())
+    assert!(rt; attrs.expect(&rt, "discarded").as4.is_none());
 }
 
 /// A field, and the subcode of its first fault from a peer of four-octet AS numbers with IPv6.

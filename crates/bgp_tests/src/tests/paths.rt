@@ -1,6 +1,5 @@
 //! Paths as messages hold them, with their hops and origins, and what AS4_PATH does to them.
 use as_path::{Aggregators, PathView, Width, origin_of};
-use std::test::Fail;
 
 /// No AGGREGATOR and no AS4_AGGREGATOR.
 const NEITHER: Aggregators = Aggregators {
@@ -45,9 +44,9 @@ const ROWS: [Row; 5] = [
 ];
 
 #[test]
-fn a_path_ends_in_its_origin(rt: HostRuntime) -> Result<(), Fail> {
+fn a_path_ends_in_its_origin(rt: HostRuntime) {
     for row in ROWS {
-        let path = PathView::read(row.value, Width::Four).ok_or("well formed")?;
+        let path = PathView::read(row.value, Width::Four).expect(&rt, "well formed");
         assert_eq!(rt; path.hops(), row.hops, "{:?}", row.value);
         assert_eq!(rt;
             origin_of(&path, None, NEITHER),
@@ -56,7 +55,6 @@ fn a_path_ends_in_its_origin(rt: HostRuntime) -> Result<(), Fail> {
             row.value
         );
     }
-    Ok(())
 }
 
 /// No AS number; a confederation's segment; one that runs past the value; half a header.
@@ -135,15 +133,14 @@ const BESIDE: [Beside; 7] = [
 ];
 
 #[test]
-fn as4_path_stands_for_the_last_hops(rt: HostRuntime) -> Result<(), Fail> {
-    let path = PathView::read(b"\x02\x02\xFB\xF5\x5B\xA0", Width::Two).ok_or("well formed")?;
+fn as4_path_stands_for_the_last_hops(rt: HostRuntime) {
+    let path = PathView::read(b"\x02\x02\xFB\xF5\x5B\xA0", Width::Two).expect(&rt, "well formed");
     assert_eq!(rt; origin_of(&path, None, NEITHER), Some(23456));
     for beside in BESIDE {
-        let as4 = PathView::read(beside.as4, Width::Four).ok_or("well formed")?;
+        let as4 = PathView::read(beside.as4, Width::Four).expect(&rt, "well formed");
         let origin = origin_of(&path, Some(&as4), beside.aggregators);
         assert_eq!(rt; origin, beside.origin, "{}", beside.name);
     }
-    Ok(())
 }
 
 /// A path that is well formed at both widths, what it is at each: its hops and its origin.
@@ -170,12 +167,10 @@ const EITHER_WAY: [EitherWay; 2] = [
 ];
 
 #[test]
-fn a_path_that_fits_both_widths_is_read_by_the_one_that_is_told(
-    rt: HostRuntime,
-) -> Result<(), Fail> {
+fn a_path_that_fits_both_widths_is_read_by_the_one_that_is_told(rt: HostRuntime) {
     for either in EITHER_WAY {
         for (width, wanted) in [(Width::Two, either.two), (Width::Four, either.four)] {
-            let path = PathView::read(either.value, width).ok_or("well formed")?;
+            let path = PathView::read(either.value, width).expect(&rt, "well formed");
             let origin = origin_of(&path, None, NEITHER);
             assert_eq!(rt;
                 (path.hops(), origin),
@@ -185,7 +180,6 @@ fn a_path_that_fits_both_widths_is_read_by_the_one_that_is_told(
             );
         }
     }
-    Ok(())
 }
 
 /// 64497 64498, a set of 64499 and 64500, and then 64501, at each width.
@@ -203,27 +197,23 @@ const AROUND_A_SET: [(&[u8], Width); 2] = [
 ];
 
 #[test]
-fn the_last_segment_of_sequence_set_sequence_decides_the_origin(
-    rt: HostRuntime,
-) -> Result<(), Fail> {
+fn the_last_segment_of_sequence_set_sequence_decides_the_origin(rt: HostRuntime) {
     for (value, width) in AROUND_A_SET {
-        let path = PathView::read(value, width).ok_or("well formed")?;
+        let path = PathView::read(value, width).expect(&rt, "well formed");
         assert_eq!(rt; path.hops(), 4, "{width:?}");
         assert_eq!(rt; origin_of(&path, None, NEITHER), Some(64501), "{width:?}");
     }
-    Ok(())
 }
 
 #[test]
-fn an_as4_path_that_is_a_set_alone_leaves_no_origin(rt: HostRuntime) -> Result<(), Fail> {
+fn an_as4_path_that_is_a_set_alone_leaves_no_origin(rt: HostRuntime) {
     // One hop, as AS_PATH of one AS has: it stands for all of that.
-    let path = PathView::read(b"\x02\x01\xFB\xF5", Width::Two).ok_or("well formed")?;
+    let path = PathView::read(b"\x02\x01\xFB\xF5", Width::Two).expect(&rt, "well formed");
     let four = b"\x01\x03\x00\x00\xFB\xF5\x00\x01\x86\xA0\x00\x01\x86\xA1";
-    let as4 = PathView::read(four, Width::Four).ok_or("well formed")?;
+    let as4 = PathView::read(four, Width::Four).expect(&rt, "well formed");
     assert_eq!(rt; as4.hops(), 1);
     assert_eq!(rt; origin_of(&path, Some(&as4), NEITHER), None);
     // An empty AS_PATH has fewer hops, so that it alone counts, and it ends in no AS either.
-    let none = PathView::read(b"", Width::Two).ok_or("well formed")?;
+    let none = PathView::read(b"", Width::Two).expect(&rt, "well formed");
     assert_eq!(rt; origin_of(&none, Some(&as4), NEITHER), None);
-    Ok(())
 }

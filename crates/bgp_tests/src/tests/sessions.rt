@@ -9,7 +9,6 @@ use message_octets::{
 };
 use session_fsm::{Effect, Item, Session};
 use std::process::Abort;
-use std::test::Fail;
 use urpf_base::{IfaceId, Origin, ResetCause, SessionConfig};
 
 /// What an effect is, without the octets that it borrows: of changed routes their origin.
@@ -71,14 +70,14 @@ fn item_of(input: Input) -> Item<'static> {
 }
 
 /// A session with a peer in AS 64501, which is offered this hold time.
-fn session(hold: u16) -> Result<Session, Fail> {
-    let iface = IfaceId::new(1).ok_or("a number below 64")?;
-    Ok(Session::new(SessionConfig {
+fn session(rt: &impl Abort, hold: u16) -> Session {
+    let iface = IfaceId::new(1).expect(rt, "a number below 64");
+    Session::new(SessionConfig {
         iface,
         peer_as: 64501,
         hold,
         max: 10,
-    }))
+    })
 }
 
 /// Whether the item is one that a session takes.
@@ -130,8 +129,8 @@ fn stage_of(rt: &impl Abort, session: &mut Session) -> Stage {
 }
 
 /// A session in Idle, OpenSent, OpenConfirm or Established, by how many items lead there.
-fn session_after(rt: &impl Abort, steps: usize, hold: u16) -> Result<Session, Fail> {
-    let mut session = session(hold)?;
+fn session_after(rt: &impl Abort, steps: usize, hold: u16) -> Session {
+    let mut session = session(rt, hold);
     if steps > 0 {
         assert_eq!(rt; take(rt, &mut session, UP), Seen::Advanced);
     }
@@ -141,7 +140,7 @@ fn session_after(rt: &impl Abort, steps: usize, hold: u16) -> Result<Session, Fa
     if steps > 2 {
         assert_eq!(rt; take(rt, &mut session, A_KEEPALIVE), Seen::Advanced);
     }
-    Ok(session)
+    session
 }
 
 /// An item, and what it does in Idle, OpenSent, OpenConfirm and Established, with the next state.
@@ -285,54 +284,50 @@ const ROWS: [Row; 13] = [
 ];
 
 #[test]
-fn each_state_takes_each_item_by_its_row(rt: HostRuntime) -> Result<(), Fail> {
+fn each_state_takes_each_item_by_its_row(rt: HostRuntime) {
     for row in ROWS {
         for steps in 0..4 {
-            let mut session = session_after(&rt, steps, 180)?;
+            let mut session = session_after(&rt, steps, 180);
             let (effect, next) = row.outcomes[steps];
             assert_eq!(rt; take(&rt, &mut session, row.input), effect, "{}", row.name);
             assert_eq!(rt; stage_of(&rt, &mut session), next, "{}", row.name);
         }
     }
-    Ok(())
 }
 
 #[test]
-fn messages_of_the_peer_start_the_seconds_anew(rt: HostRuntime) -> Result<(), Fail> {
+fn messages_of_the_peer_start_the_seconds_anew(rt: HostRuntime) {
     for input in [A_KEEPALIVE, AN_UPDATE] {
-        let mut session = session_after(&rt, 3, 180)?;
+        let mut session = session_after(&rt, 3, 180);
         assert_eq!(rt; take(&rt, &mut session, seconds(89)), Seen::Nothing);
         take(&rt, &mut session, input);
         assert_eq!(rt; take(&rt, &mut session, seconds(60)), Seen::Nothing);
         assert_eq!(rt; take(&rt, &mut session, seconds(29)), Seen::Nothing);
         assert_eq!(rt; take(&rt, &mut session, seconds(1)), EXPIRED.0);
     }
-    Ok(())
 }
 
 #[test]
-fn the_lesser_hold_time_counts_and_zero_never_ends(rt: HostRuntime) -> Result<(), Fail> {
-    let mut session = session_after(&rt, 3, 30)?;
+fn the_lesser_hold_time_counts_and_zero_never_ends(rt: HostRuntime) {
+    let mut session = session_after(&rt, 3, 30);
     assert_eq!(rt; take(&rt, &mut session, seconds(29)), Seen::Nothing);
     assert_eq!(rt; take(&rt, &mut session, seconds(1)), EXPIRED.0);
-    let mut session = session_after(&rt, 3, 0)?;
+    let mut session = session_after(&rt, 3, 0);
     for _ in 0..2 {
         assert_eq!(rt; take(&rt, &mut session, seconds(u32::MAX)), Seen::Nothing);
     }
     assert_eq!(rt; stage_of(&rt, &mut session), Stage::Established);
-    Ok(())
 }
 
 #[test]
-fn an_established_session_is_ended_for_too_many_prefixes(rt: HostRuntime) -> Result<(), Fail> {
-    let mut session = session_after(&rt, 3, 180)?;
+fn an_established_session_is_ended_for_too_many_prefixes(rt: HostRuntime) {
+    let mut session = session_after(&rt, 3, 180);
     let established = session.established();
     assert!(rt; established);
     assert_eq!(rt; session.cease(), ResetCause::Fault(6, 1));
     assert_eq!(rt; session.items(), 3);
     assert_eq!(rt; session.config().max, 10);
     assert_eq!(rt; stage_of(&rt, &mut session), Stage::Idle);
-    Ok(())
 }
 
 /// 198.51.100.0/24 with an AS_PATH that is well formed at both widths. At two octets it is 64501
@@ -348,10 +343,8 @@ const EITHER_WAY: Input = Input::Bare(Item::Message(
 ));
 
 #[test]
-fn two_sessions_in_turns_read_the_same_octets_each_at_its_own_width(
-    rt: HostRuntime,
-) -> Result<(), Fail> {
-    let mut two = session(90)?;
+fn two_sessions_in_turns_read_the_same_octets_each_at_its_own_width(rt: HostRuntime) {
+    let mut two = session(&rt, 90);
     for input in [
         UP,
         Input::Whole(MsgKind::Open, &OPEN_TWO_OCTET),
@@ -359,7 +352,7 @@ fn two_sessions_in_turns_read_the_same_octets_each_at_its_own_width(
     ] {
         assert_eq!(rt; take(&rt, &mut two, input), Seen::Advanced);
     }
-    let mut four = session_after(&rt, 3, 90)?;
+    let mut four = session_after(&rt, 3, 90);
     for _ in 0..2 {
         let seen = take(&rt, &mut four, EITHER_WAY);
         assert_eq!(rt; seen, Seen::Changes(Some(0x0201_FBF7)));
@@ -372,5 +365,4 @@ fn two_sessions_in_turns_read_the_same_octets_each_at_its_own_width(
         Seen::Reset(ResetCause::Fault(3, 11))
     );
     assert_eq!(rt; take(&rt, &mut four, AN_UPDATE), Seen::Changes(Some(64501)));
-    Ok(())
 }

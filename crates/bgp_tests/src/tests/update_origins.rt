@@ -1,7 +1,6 @@
 //! The origins of announced routes, from peers of four-octet and of two-octet AS numbers.
 use super::updates::read;
 use as_path::Width;
-use std::test::Fail;
 use urpf_base::Origin;
 
 /// A body that announces a route, with the origin of the route.
@@ -173,10 +172,9 @@ const ROWS: [Row; 13] = [
 ];
 
 #[test]
-fn a_route_has_the_origin_of_its_path(rt: HostRuntime) -> Result<(), Fail> {
+fn a_route_has_the_origin_of_its_path(rt: HostRuntime) {
     for row in ROWS {
-        let update = read(&rt, row.body, row.width, true).map_err(|_| "no fault")?;
+        let update = read(&rt, row.body, row.width, true).expect(&rt, "no fault");
         assert_eq!(rt; update.origin(), row.origin, "{}", row.name);
     }
-    Ok(())
 }

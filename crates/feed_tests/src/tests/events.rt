@@ -2,16 +2,15 @@
 ghost use Rattle.std.specs.Prelude.{◌<◌, ◌≤◌};
 
 use feed_io::{Feed, FeedEvent, MemFeed, SureFeed};
-use std::alloc::Global;
+use std::alloc::{AllocError, Global};
 use std::process::Abort;
-use std::test::Fail;
-use urpf_base::Failed;
+use urpf_base::{Failed, OutOfMemory};
 
 /// The most octets that one call is asked for.
 pub const BUFFER_OCTETS: usize = 64;
 
 /// What a feed tells up to its end or its first failure: the events, and all octets.
-pub fn told<F: Feed>(alloc: Global, feed: &mut F, room: usize) -> Result<(String, Vec<u8>), Fail>
+fn told<F: Feed>(alloc: Global, feed: &mut F, room: usize) -> Result<(String, Vec<u8>), AllocError>
     requires some { 0 < room }
     requires within { room ≤ 64 }
 {
@@ -36,7 +35,7 @@ pub fn told<F: Feed>(alloc: Global, feed: &mut F, room: usize) -> Result<(String
             }
         }
     }
-    Err(Fail::from("more than 100 events"))
+    Ok((events, octets))
 }
 
 /// That the feed tells these events and octets.
@@ -46,14 +45,13 @@ pub fn is_told<F: Feed>(
     room: usize,
     events: &str,
     octets: &[u8],
-) -> Result<(), Fail>
+)
     requires some { 0 < room }
     requires within { room ≤ 64 }
 {
-    let (was, held) = told(rt.alloc(), feed, room)?;
+    let (was, held) = told(rt.alloc(), feed, room).expect(rt, "memory");
     assert_eq!(rt; was.as_str(), events);
     assert_eq!(rt; held.as_slice(), octets);
-    Ok(())
 }
 
 /// An event that is appended to a feed in memory.
@@ -65,39 +63,43 @@ enum Appended {
     Elapsed(u32),
 }
 
-/// Both feeds in memory of these events. `fails` holds the numbers of the calls of the second that
-/// fail.
-fn feeds(alloc: Global, events: &[Appended], fails: &[u64]) -> Result<(SureFeed, MemFeed), Fail> {
-    let mut sure = SureFeed::new(alloc);
-    let mut mem = MemFeed::new(alloc, Vec::from_slice(alloc, fails)?);
-    for event in events {
-        match *event {
-            Appended::Up => {
-                sure.up()?;
-                mem.up()?;
-            }
-            Appended::Octets(piece) => append_octets(&mut sure, &mut mem, piece)?,
-            Appended::Down => {
-                sure.down()?;
-                mem.down()?;
-            }
-            Appended::Elapsed(seconds) => {
-                sure.elapsed(seconds)?;
-                mem.elapsed(seconds)?;
-            }
+/// Appends an event to both feeds in memory.
+fn append(sure: &mut SureFeed, mem: &mut MemFeed, event: Appended) -> Result<(), OutOfMemory> {
+    match event {
+        Appended::Up => {
+            sure.up()?;
+            mem.up()
+        }
+        Appended::Octets(piece) if !piece.is_empty() && piece.len() <= 65_535 => {
+            sure.octets(piece)?;
+            mem.octets(piece)
+        }
+        Appended::Octets(_) => Ok(()),
+        Appended::Down => {
+            sure.down()?;
+            mem.down()
+        }
+        Appended::Elapsed(seconds) => {
+            sure.elapsed(seconds)?;
+            mem.elapsed(seconds)
         }
     }
-    Ok((sure, mem))
 }
 
-/// The piece goes to both feeds.
-fn append_octets(sure: &mut SureFeed, mem: &mut MemFeed, piece: &[u8]) -> Result<(), Fail> {
-    if piece.is_empty() || piece.len() > 65_535 {
-        return Err(Fail::from("a piece has from 1 to 65,535 octets"));
+/// Both feeds in memory of these events. `fails` holds the numbers of the calls of the second that
+/// fail.
+fn feeds(
+    rt: &(impl Abort + AllocGlobal),
+    events: &[Appended],
+    fails: &[u64],
+) -> (SureFeed, MemFeed) {
+    let fails = Vec::from_slice(rt.alloc(), fails).expect(rt, "memory");
+    let mut sure = SureFeed::new(rt.alloc());
+    let mut mem = MemFeed::new(rt.alloc(), fails);
+    for event in events {
+        append(&mut sure, &mut mem, *event).expect(rt, "memory");
     }
-    sure.octets(piece)?;
-    mem.octets(piece)?;
-    Ok(())
+    (sure, mem)
 }
 
 /// Events, how many octets a call may give, and what is told: events, and octets.
@@ -154,21 +156,20 @@ const ROWS: [(&[Appended], usize, &str, &[u8]); 5] = [
 ];
 
 #[test]
-fn events_are_given_in_their_order(rt: HostRuntime) -> Result<(), Fail> {
+fn events_are_given_in_their_order(rt: HostRuntime) {
     for (events, room, wanted, octets) in ROWS {
-        let (mut sure, mut mem) = feeds(rt.alloc(), events, &[])?;
+        let (mut sure, mut mem) = feeds(&rt, events, &[]);
         assert!(rt; 0 < room && room <= BUFFER_OCTETS);
-        is_told(&rt, &mut sure, room, wanted, octets)?;
-        is_told(&rt, &mut mem, room, wanted, octets)?;
+        is_told(&rt, &mut sure, room, wanted, octets);
+        is_told(&rt, &mut mem, room, wanted, octets);
     }
-    Ok(())
 }
 
 #[test]
-fn the_listed_calls_fail_and_take_nothing(rt: HostRuntime) -> Result<(), Fail> {
+fn the_listed_calls_fail_and_take_nothing(rt: HostRuntime) {
     let events = [Appended::Up, Appended::Octets(b"update"), Appended::Down];
-    let (_, mut mem) = feeds(rt.alloc(), &events, &[2, 4])?;
-    is_told(&rt, &mut mem, 4, "Up Failed", b"")?;
-    is_told(&rt, &mut mem, 4, "Octets(4) Failed", b"upda")?;
-    is_told(&rt, &mut mem, 4, "Octets(2) Down End", b"te")
+    let (_, mut mem) = feeds(&rt, &events, &[2, 4]);
+    is_told(&rt, &mut mem, 4, "Up Failed", b"");
+    is_told(&rt, &mut mem, 4, "Octets(4) Failed", b"upda");
+    is_told(&rt, &mut mem, 4, "Octets(2) Down End", b"te");
 }

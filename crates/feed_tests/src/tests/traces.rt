@@ -3,8 +3,7 @@ ghost use Rattle.std.specs.Prelude.{◌<◌, None, length};
 
 use super::events::is_told;
 use feed_io::{MemSource, SureSource, TraceFeed, assigned_numbers, one_trace};
-use std::alloc::Global;
-use std::test::Fail;
+use std::process::Abort;
 use urpf_base::{Failed, Source};
 
 /// Up, the octets "abc", 2 seconds, Down.
@@ -15,8 +14,9 @@ const WORKED: [u8; 13] = [
     3, // the transport goes down
 ];
 
-fn trace(alloc: Global, octets: &[u8]) -> Result<TraceFeed<SureSource>, Fail> {
-    Ok(TraceFeed::new(SureSource::new(Vec::from_slice(alloc, octets)?)))
+/// A source in memory of these octets.
+fn source(rt: &(impl Abort + AllocGlobal), octets: &[u8]) -> SureSource {
+    SureSource::new(Vec::from_slice(rt.alloc(), octets).expect(rt, "memory"))
 }
 
 /// How many octets a call may give, and the events of the worked trace.
@@ -28,14 +28,16 @@ const BY_ROOM: [(usize, &str); 4] = [
 ];
 
 #[test]
-fn a_trace_gives_its_events(rt: HostRuntime) -> Result<(), Fail> {
+fn a_trace_gives_its_events(rt: HostRuntime) {
     assigned_numbers();
     one_trace();
     for (room, events) in BY_ROOM {
         assert!(rt; 0 < room && room <= 64);
-        is_told(&rt, &mut trace(rt.alloc(), &WORKED)?, room, events, b"abc")?;
+        let mut feed = TraceFeed::new(source(&rt, &WORKED));
+        is_told(&rt, &mut feed, room, events, b"abc");
     }
-    is_told(&rt, &mut trace(rt.alloc(), b"")?, 64, "End", b"")
+    let mut feed = TraceFeed::new(source(&rt, b""));
+    is_told(&rt, &mut feed, 64, "End", b"");
 }
 
 /// Broken traces, and what is told of each: events, and octets.
@@ -59,13 +61,12 @@ const BROKEN: [(&[u8], &str, &[u8]); 11] = [
 ];
 
 #[test]
-fn a_broken_trace_gives_its_front_and_then_fails(rt: HostRuntime) -> Result<(), Fail> {
+fn a_broken_trace_gives_its_front_and_then_fails(rt: HostRuntime) {
     for (octets, events, held) in BROKEN {
-        let mut feed = trace(rt.alloc(), octets)?;
-        is_told(&rt, &mut feed, 64, events, held)?;
-        is_told(&rt, &mut feed, 64, "Failed", b"")?;
+        let mut feed = TraceFeed::new(source(&rt, octets));
+        is_told(&rt, &mut feed, 64, events, held);
+        is_told(&rt, &mut feed, 64, "Failed", b"");
     }
-    Ok(())
 }
 
 /// The read that fails, and what is told of the worked trace: events, and octets. There is a read
@@ -82,15 +83,14 @@ const BY_FAILURE: [(u64, &str, &[u8]); 8] = [
 ];
 
 #[test]
-fn a_source_that_fails_in_mid_stream_ends_the_feed(rt: HostRuntime) -> Result<(), Fail> {
+fn a_source_that_fails_in_mid_stream_ends_the_feed(rt: HostRuntime) {
     for (call, events, held) in BY_FAILURE {
-        let fails = Vec::from_slice(rt.alloc(), &[call])?;
-        let source = MemSource::new(Vec::from_slice(rt.alloc(), &WORKED)?, fails);
-        let mut feed = TraceFeed::new(source);
-        is_told(&rt, &mut feed, 64, events, held)?;
-        is_told(&rt, &mut feed, 64, "Failed", b"")?;
+        let fails = Vec::from_slice(rt.alloc(), &[call]).expect(&rt, "memory");
+        let octets = Vec::from_slice(rt.alloc(), &WORKED).expect(&rt, "memory");
+        let mut feed = TraceFeed::new(MemSource::new(octets, fails));
+        is_told(&rt, &mut feed, 64, events, held);
+        is_told(&rt, &mut feed, 64, "Failed", b"");
     }
-    Ok(())
 }
 
 /// A source that gives one octet a read, and tells nothing.
@@ -110,9 +110,9 @@ impl Source for Drip {
 }
 
 #[test]
-fn reads_of_one_octet_give_the_same_events(rt: HostRuntime) -> Result<(), Fail> {
-    let octets = SureSource::new(Vec::from_slice(rt.alloc(), &WORKED)?);
+fn reads_of_one_octet_give_the_same_events(rt: HostRuntime) {
+    let octets = source(&rt, &WORKED);
     let mut feed = TraceFeed::new(Drip { octets });
     let ones = "Up Octets(1) Octets(1) Octets(1) Elapsed(2) Down End";
-    is_told(&rt, &mut feed, 64, ones, b"abc")
+    is_told(&rt, &mut feed, 64, ones, b"abc");
 }

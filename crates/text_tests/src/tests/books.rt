@@ -3,7 +3,7 @@ ghost use Rattle.std.specs.Prelude.{◌<◌, ◌^◌, length};
 
 use runbook::{BookFault, BookKind, BookLine, ReadBook, read_book};
 use std::alloc::Global;
-use std::test::Fail;
+use std::process::Abort;
 use urpf_base::{Addr, IfaceId};
 
 /// A line that is wanted, of session 0 and interface 0.
@@ -15,16 +15,16 @@ enum Wanted {
 }
 
 /// The line of a book that is meant.
-fn line_of(wanted: Wanted) -> Result<BookLine, Fail> {
-    let iface = IfaceId::new(0).ok_or("below 64")?;
-    Ok(match wanted {
+fn line_of(rt: &impl Abort, wanted: Wanted) -> BookLine {
+    let iface = IfaceId::new(0).expect(rt, "below 64");
+    match wanted {
         Wanted::Pull(count) => BookLine::Pull {
             session: Some(0),
             count,
         },
         Wanted::Publish => BookLine::Publish,
         Wanted::Check(addr) => BookLine::Check { iface, addr },
-    })
+    }
 }
 
 /// Books, and their lines with the numbers of these.
@@ -67,18 +67,17 @@ const BOOKS: [(&[u8], &[(u32, Wanted)]); 6] = [
 ];
 
 #[test]
-fn each_form_is_read_with_its_line(rt: HostRuntime) -> Result<(), Fail> {
+fn each_form_is_read_with_its_line(rt: HostRuntime) {
     for (text, lines) in BOOKS {
         assert!(rt; text.len() < 1000);
-        let book = read_book(rt.alloc(), text)?;
+        let book = read_book(rt.alloc(), text).expect(&rt, "a book");
         let count = book.len();
         assert!(rt; count == lines.len(), "{text:?}");
         for k in 0..count {
             let (number, wanted) = lines[k];
-            assert_eq!(rt; book.line(k), (number, line_of(wanted)?), "{text:?}");
+            assert_eq!(rt; book.line(k), (number, line_of(&rt, wanted)), "{text:?}");
         }
     }
-    Ok(())
 }
 
 /// Where and how a book is refused.

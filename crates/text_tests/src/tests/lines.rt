@@ -1,7 +1,6 @@
 //! Each line as it stands in the output.
 use report_text::{put_check, put_done, put_end, put_mark, put_one, put_reset, put_run};
 use std::process::Abort;
-use std::test::Fail;
 use urpf_base::{Addr, IfaceId, Line, ResetCause, Verdict};
 
 /// 198.51.100.9.
@@ -81,23 +80,15 @@ fn a_session_ends_with_its_rest_and_a_reset_names_its_cause(rt: HostRuntime) {
 }
 
 /// The line of a check of a source on an interface, at a publication.
-fn is_checked(
-    rt: &impl Abort,
-    iface: u16,
-    addr: Addr,
-    verdict: Verdict,
-    number: u64,
-    text: &[u8],
-) -> Result<(), Fail> {
-    let iface = IfaceId::new(iface).ok_or("below 64")?;
+fn is_checked(rt: &impl Abort, iface: u16, addr: Addr, verdict: Verdict, number: u64, text: &[u8]) {
+    let iface = IfaceId::new(iface).expect(rt, "below 64");
     let mut line = Line::new();
     put_check(iface, &addr, verdict, number, &mut line);
     assert_eq!(rt; line.bytes(), text);
-    Ok(())
 }
 
 #[test]
-fn a_check_tells_its_verdict(rt: HostRuntime) -> Result<(), Fail> {
+fn a_check_tells_its_verdict(rt: HostRuntime) {
     let rows: [(bool, &[u8]); 2] = [
         (
             true,
@@ -115,7 +106,7 @@ fn a_check_tells_its_verdict(rt: HostRuntime) -> Result<(), Fail> {
     }
     let wide = Addr::V6(0x2001_0DB8_0000_0000_0000_0000_0000_0001);
     let text = b"check 0 2001:0db8:0000:0000:0000:0000:0000:0001 pass 0\n";
-    is_checked(&rt, 0, wide, Verdict::Pass, 0, text)?;
+    is_checked(&rt, 0, wide, Verdict::Pass, 0, text);
     is_checked(
         &rt,
         63,
@@ -123,5 +114,5 @@ fn a_check_tells_its_verdict(rt: HostRuntime) -> Result<(), Fail> {
         Verdict::Drop,
         12,
         b"check 63 198.51.100.9 drop 12\n",
-    )
+    );
 }

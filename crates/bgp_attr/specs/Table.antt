@@ -73,57 +73,34 @@ pub record Row : Type 1 where
   pub Fits : List ℕ → Type 0
   pub wrong : ℕ
 
+-- a well-known attribute is transitive and not optional (RFC 4271, section 4.3)
+abbrev pub well_known : ℕ → Option ℕ → (List ℕ → Type 0) → ℕ → Row
+well_known code size Fits wrong =
+    record { code = code; optional = false; transitive = true; size = size; Fits = Fits; wrong = wrong }
+
+-- an optional attribute that is transitive
+abbrev pub transitive : ℕ → Option ℕ → (List ℕ → Type 0) → ℕ → Row
+transitive code size Fits wrong =
+    record { code = code; optional = true; transitive = true; size = size; Fits = Fits; wrong = wrong }
+
+-- an optional attribute that is not
+abbrev pub non_transitive : ℕ → Option ℕ → (List ℕ → Type 0) → ℕ → Row
+non_transitive code size Fits wrong =
+    record { code = code; optional = true; transitive = false; size = size; Fits = Fits; wrong = wrong }
+
 -- the table, for AS numbers of this width, and for a peer that listed IPv6 unicast or did not
 abbrev pub row : Width → Bool → AttributeType → Row
-row width v6 Origin =
-    record { code = 1; optional = false; transitive = true; size = Some 1; Fits = IsOrigin; wrong = INVALID_ORIGIN }
-row width v6 AsPath =
-    record {
-      code = 2;
-      optional = false;
-      transitive = true;
-      size = None;
-      Fits = IsAsPath width;
-      wrong = MALFORMED_AS_PATH;
-    }
-row width v6 NextHop =
-    record { code = 3; optional = false; transitive = true; size = Some 4; Fits = IsNextHop; wrong = INVALID_NEXT_HOP }
-row width v6 MultiExitDisc =
-    record { code = 4; optional = true; transitive = false; size = Some 4; Fits = AnyValue; wrong = 0 }
-row width v6 LocalPref =
-    record { code = 5; optional = false; transitive = true; size = Some 4; Fits = AnyValue; wrong = 0 }
-row width v6 AtomicAggregate =
-    record { code = 6; optional = false; transitive = true; size = Some 0; Fits = AnyValue; wrong = 0 }
-row width v6 Aggregator =
-    record {
-      code = 7;
-      optional = true;
-      transitive = true;
-      size = Some (octets_per width + 4);
-      Fits = AnyValue;
-      wrong = 0;
-    }
-row width v6 MpReachNlri =
-    record {
-      code = 14;
-      optional = true;
-      transitive = false;
-      size = None;
-      Fits = IsMpReach v6;
-      wrong = OPTIONAL_ATTRIBUTE_ERROR;
-    }
-row width v6 MpUnreachNlri =
-    record {
-      code = 15;
-      optional = true;
-      transitive = false;
-      size = None;
-      Fits = IsMpUnreach v6;
-      wrong = OPTIONAL_ATTRIBUTE_ERROR;
-    }
-row width v6 As4Path = record { code = 17; optional = true; transitive = true; size = None; Fits = AnyValue; wrong = 0 }
-row width v6 As4Aggregator =
-    record { code = 18; optional = true; transitive = true; size = None; Fits = AnyValue; wrong = 0 }
+row width v6 Origin = well_known 1 (Some 1) IsOrigin INVALID_ORIGIN
+row width v6 AsPath = well_known 2 None (IsAsPath width) MALFORMED_AS_PATH
+row width v6 NextHop = well_known 3 (Some 4) IsNextHop INVALID_NEXT_HOP
+row width v6 MultiExitDisc = non_transitive 4 (Some 4) AnyValue 0
+row width v6 LocalPref = well_known 5 (Some 4) AnyValue 0
+row width v6 AtomicAggregate = well_known 6 (Some 0) AnyValue 0
+row width v6 Aggregator = transitive 7 (Some (octets_per width + 4)) AnyValue 0
+row width v6 MpReachNlri = non_transitive 14 None (IsMpReach v6) OPTIONAL_ATTRIBUTE_ERROR
+row width v6 MpUnreachNlri = non_transitive 15 None (IsMpUnreach v6) OPTIONAL_ATTRIBUTE_ERROR
+row width v6 As4Path = transitive 17 None AnyValue 0
+row width v6 As4Aggregator = transitive 18 None AnyValue 0
 
 -- the code of a type, which is the same for every peer
 abbrev pub code_of : AttributeType → ℕ

@@ -13,7 +13,7 @@ pub enum PlainHop {
 }
 
 /// A segment, and what comes after it.
-#[derive(Clone, Copy)]
+#[derive(Clone, Copy, Debug)]
 struct PlainSegment<'a> {
     is_set: bool,
     numbers: &'a [u8],

@@ -17,7 +17,7 @@ pub struct PlainUpdate {
 }
 
 /// The three fields of a body.
-#[derive(Clone, Copy)]
+#[derive(Clone, Copy, Debug)]
 struct PlainFields<'a> {
     withdrawn: &'a [u8],
     attributes: &'a [u8],

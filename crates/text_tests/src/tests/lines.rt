@@ -1,4 +1,6 @@
 //! Each line as it stands in the output.
+ghost use Rattle.std.specs.Prelude.{◌≡◌, ◌⊎◌};
+
 use report_text::{put_check, put_done, put_end, put_mark, put_one, put_reset, put_run};
 use std::process::Abort;
 use urpf_base::{Addr, IfaceId, Line, ResetCause, Verdict};
@@ -80,7 +82,9 @@ fn a_session_ends_with_its_rest_and_a_reset_names_its_cause(rt: HostRuntime) {
 }
 
 /// The line of a check of a source on an interface, at a publication.
-fn is_checked(rt: &impl Abort, iface: u16, addr: Addr, verdict: Verdict, number: u64, text: &[u8]) {
+fn is_checked(rt: &impl Abort, iface: u16, addr: Addr, verdict: Verdict, number: u64, text: &[u8])
+    requires { (verdict ≡ Verdict.Pass) ⊎ (verdict ≡ Verdict.Drop) }
+{
     let iface = IfaceId::new(iface).expect(rt, "below 64");
     let mut line = Line::new();
     put_check(iface, &addr, verdict, number, &mut line);

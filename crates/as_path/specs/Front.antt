@@ -1,5 +1,7 @@
--- The first AS number of a text and the first segment of a path as functions, beside the relations of what their spellings are.
-use Rattle.std.specs.Prelude.{ℕ, ◌*◌, ◌==◌, nat_lt, if◌then◌else◌, List, [], ◌∷◌, length, take, drop, Option, Some, None}
+-- The first AS number of a text and the first segment of a path as functions, beside the relations of what their
+-- spellings are.
+use Rattle.std.specs.Prelude.{ℕ, ◌*◌, ◌==◌, nat_lt, if◌then◌else◌, List, [], ◌∷◌, length, take, drop, Option, Some}
+use Rattle.std.specs.Prelude.{None}
 use Rattle.byteorder.specs.Endian.{big_number}
 use Rattle.urpf_base.specs.Series.{values_in}
 use Rattle.as_path.specs.declared.widths.Width.{Width}
@@ -36,7 +38,8 @@ cut_segment width type size text = (segment_from type (numbers_in width (take si
 abbrev pub segment_after : Width → Option SegmentType → ℕ → List ℕ → Option (Segment × List ℕ)
 segment_after width None count text = None
 segment_after width (Some type) count text =
-    if count == 0 then None else if nat_lt (length text) (count * octets_per width) then None else Some (cut_segment width type (count * octets_per width) text)
+    if count == 0 then None else if nat_lt (length text) (count * octets_per width) then None
+    else Some (cut_segment width type (count * octets_per width) text)
 
 -- the first segment of a path, and what is left of the path
 abbrev pub segment_front : Width → List ℕ → Option (Segment × List ℕ)

@@ -1,5 +1,7 @@
--- The hops of a path, the path that AS_PATH and AS4_PATH make together, and its origin (RFC 4271, section 9.1.2.2, a; RFC 6793, section 4.2.3; RFC 6811, section 2).
-use Rattle.std.specs.Prelude.{ℕ, ◌-◌, Bool, false, ◌||◌, ◌==◌, not, nat_lt, if◌then◌else◌, List, [], ◌∷◌, ◌++◌, length, map, take, Option, Some, None}
+-- The hops of a path, the path that AS_PATH and AS4_PATH make together, and its origin (RFC 4271, section 9.1.2.2, a;
+-- RFC 6793, section 4.2.3; RFC 6811, section 2).
+use Rattle.std.specs.Prelude.{ℕ, ◌-◌, Bool, false, ◌||◌, ◌==◌, not, nat_lt, if◌then◌else◌, List, [], ◌∷◌, ◌++◌, length}
+use Rattle.std.specs.Prelude.{map, take, Option, Some, None}
 use Rattle.as_path.specs.declared.merge.Aggregators.{Aggregators}
 use Rattle.as_path.specs.Path.{Segment, as_set, as_sequence}
 
@@ -34,7 +36,8 @@ joined path four = take (length path - length four) path ++ four
 abbrev pub merged : List Segment → Option (List Segment) → Aggregators → List Hop
 merged path None aggregators = hops path
 merged path (Some four) aggregators =
-    if is_aggregated_anew aggregators.own aggregators.four || nat_lt (length (hops path)) (length (hops four)) then hops path else joined (hops path) (hops four)
+    if is_aggregated_anew aggregators.own aggregators.four || nat_lt (length (hops path)) (length (hops four))
+    then hops path else joined (hops path) (hops four)
 
 -- AS 0 is the origin of nothing (RFC 7607, section 2)
 abbrev pub unless_zero : ℕ → Option ℕ

@@ -1,4 +1,5 @@
--- The value of an AS_PATH or an AS4_PATH: segments of AS numbers (RFC 4271, section 4.3, path attribute b; RFC 6793, section 3).
+-- The value of an AS_PATH or an AS4_PATH: segments of AS numbers (RFC 4271, section 4.3, path attribute b; RFC 6793,
+-- section 3).
 use Rattle.std.specs.Prelude.{◌≡◌, ℕ, ◌<◌, List, ◌∷◌, length}
 use Rattle.byteorder.specs.Endian.{big_number}
 use Rattle.urpf_base.specs.Series.{SpellsAll}
@@ -37,6 +38,7 @@ pub record SpellsSegment (width : Width) (text : List ℕ) (segment : Segment) :
   pub some : 0 < length (numbers_of segment)
   pub numbers : SpellsAll (SpellsNumber width) octets (numbers_of segment)
 
--- the value is a well formed path: these segments, one after the other, and nothing else; an empty value is a path of none
+-- the value is a well formed path: these segments, one after the other, and nothing else; an empty value is a path of
+-- none
 abbrev pub IsPath : Width → List ℕ → List Segment → Type 0
 IsPath width value segments = SpellsAll (SpellsSegment width) value segments

@@ -15,6 +15,3 @@ mod widths;
 pub use merge::{Aggregators, origin_of};
 pub use paths::PathView;
 pub use widths::Width;
-
-#[cfg(test)]
-mod tests;

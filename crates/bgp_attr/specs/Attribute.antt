@@ -1,6 +1,6 @@
 -- An attribute, and its spelling (RFC 4271, section 4.3).
 use Rattle.std.specs.Prelude.{◌≡◌, ℕ, Bool, not, ◌==◌, bit_and, if◌then◌else◌, List, ◌∷◌, ◌++◌, length, map}
-use Rattle.bgp_attr.specs.Numbers.{number_of}
+use Rattle.byteorder.specs.Endian.{big_number}
 use Rattle.bgp_attr.specs.declared.attribute.TheConstants.{EXTENDED_LENGTH}
 
 -- an attribute: its flags, the code of its type, and its value
@@ -25,7 +25,7 @@ pub record SpellsAttribute (text : List ℕ) (attribute : Attribute) : Type 0 wh
   pub size : List ℕ
   pub parts : text ≡ attribute.flags ∷ attribute.code ∷ (size ++ attribute.value)
   pub sized : length size ≡ length_octets attribute.flags
-  pub counted : length attribute.value ≡ number_of (length_octets attribute.flags) size
+  pub counted : length attribute.value ≡ big_number (length_octets attribute.flags) size
 
 -- the codes of the types of attributes, in their order
 abbrev pub codes : List Attribute → List ℕ

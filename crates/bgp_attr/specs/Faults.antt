@@ -6,7 +6,8 @@ use Rattle.as_path.specs.declared.widths.Width.{Width}
 use Rattle.bgp_attr.specs.declared.attribute.TheConstants.{OPTIONAL, TRANSITIVE}
 use Rattle.bgp_attr.specs.declared.demands.Demand.{Demand}
 use Rattle.bgp_attr.specs.declared.demands.Demand.TheVariants.{New, Known, Flags, Length, Value}
-use Rattle.bgp_attr.specs.declared.subcodes.TheConstants.{MALFORMED_ATTRIBUTE_LIST, UNRECOGNIZED_WELL_KNOWN_ATTRIBUTE, ATTRIBUTE_FLAGS_ERROR, ATTRIBUTE_LENGTH_ERROR}
+use Rattle.bgp_attr.specs.declared.subcodes.TheConstants.{MALFORMED_ATTRIBUTE_LIST, UNRECOGNIZED_WELL_KNOWN_ATTRIBUTE}
+use Rattle.bgp_attr.specs.declared.subcodes.TheConstants.{ATTRIBUTE_FLAGS_ERROR, ATTRIBUTE_LENGTH_ERROR}
 use Rattle.bgp_attr.specs.Attribute.{Attribute, SpellsAttribute, has_flag, codes}
 use Rattle.bgp_attr.specs.Table.{Row, row, type_from, value_subcode}
 
@@ -27,9 +28,12 @@ HasLength value wanted = IfSome wanted.size (λ size. length value ≡ size)
 abbrev pub Meets : Width → Bool → List Attribute → Attribute → Demand → Type 0
 Meets width v6 before attribute New = Has (codes before) attribute.code → ⊥
 Meets width v6 before attribute Known = IsKnown attribute
-Meets width v6 before attribute Flags = IfSome (type_from attribute.code) (λ type. HasFlags attribute.flags (row width v6 type))
-Meets width v6 before attribute Length = IfSome (type_from attribute.code) (λ type. HasLength attribute.value (row width v6 type))
-Meets width v6 before attribute Value = IfSome (type_from attribute.code) (λ type. (row width v6 type).Fits attribute.value)
+Meets width v6 before attribute Flags =
+    IfSome (type_from attribute.code) (λ type. HasFlags attribute.flags (row width v6 type))
+Meets width v6 before attribute Length =
+    IfSome (type_from attribute.code) (λ type. HasLength attribute.value (row width v6 type))
+Meets width v6 before attribute Value =
+    IfSome (type_from attribute.code) (λ type. (row width v6 type).Fits attribute.value)
 
 -- the subcode of an attribute with this code that does not meet the demand
 abbrev pub subcode : ℕ → Demand → ℕ
@@ -50,7 +54,8 @@ order = New ∷ own_order
 -- of these demands, this is the first that is not met
 abbrev pub FirstUnmet : (Demand → Type 0) → List Demand → Demand → Type 0
 FirstUnmet Met [] demand = ⊥
-FirstUnmet Met (first ∷ demands) demand = ((Met first → ⊥) × (demand ≡ first)) ⊎ (Met first × FirstUnmet Met demands demand)
+FirstUnmet Met (first ∷ demands) demand =
+    ((Met first → ⊥) × (demand ≡ first)) ⊎ (Met first × FirstUnmet Met demands demand)
 
 -- the attribute is as the table asks, wherever it stands
 pub record IsProper (width : Width) (v6 : Bool) (attribute : Attribute) : Type 0 where
@@ -71,10 +76,11 @@ pub record RunsPast (rest : List ℕ) : Type 0 where
   pub broken : (attribute : Attribute) (more : List ℕ) → Begins SpellsAttribute rest attribute more → ⊥
 
 -- the attribute comes after these, and the first demand that it does not meet has this subcode
-pub record FailsWith (width : Width) (v6 : Bool) (before : List Attribute) (attribute : Attribute) (sub : ℕ) : Type 0 where
-  pub demand : Demand
-  pub first : FirstUnmet (Meets width v6 before attribute) order demand
-  pub told : sub ≡ subcode attribute.code demand
+pub record FailsWith (width : Width) (v6 : Bool) (before : List Attribute) (attribute : Attribute) (sub : ℕ) : Type 0
+  where
+    pub demand : Demand
+    pub first : FirstUnmet (Meets width v6 before attribute) order demand
+    pub told : sub ≡ subcode attribute.code demand
 
 -- the octets begin with an attribute that fails so
 pub record IsFaulty (width : Width) (v6 : Bool) (before : List Attribute) (rest : List ℕ) (sub : ℕ) : Type 0 where
@@ -85,7 +91,8 @@ pub record IsFaulty (width : Width) (v6 : Bool) (before : List Attribute) (rest 
 
 -- what stands after these attributes is a fault of this subcode
 abbrev pub StopsWith : Width → Bool → List Attribute → List ℕ → ℕ → Type 0
-StopsWith width v6 before rest sub = (RunsPast rest × (sub ≡ MALFORMED_ATTRIBUTE_LIST)) ⊎ IsFaulty width v6 before rest sub
+StopsWith width v6 before rest sub =
+    (RunsPast rest × (sub ≡ MALFORMED_ATTRIBUTE_LIST)) ⊎ IsFaulty width v6 before rest sub
 
 -- the field is attributes without a fault, the most that it begins with, and then a fault of this subcode
 pub record IsFirstFault (width : Width) (v6 : Bool) (field : List ℕ) (sub : ℕ) : Type 0 where
@@ -99,4 +106,5 @@ pub record IsFirstFault (width : Width) (v6 : Bool) (field : List ℕ) (sub : �
 -- the field is attributes as the table asks, or it has a first fault
 abbrev pub HasOutcome : Width → Bool → List ℕ → Type 0
 HasOutcome width v6 field =
-    ((attributes : List Attribute) × AreAttributes width v6 field attributes) ⊎ ((sub : ℕ) × IsFirstFault width v6 field sub)
+    ((attributes : List Attribute) × AreAttributes width v6 field attributes)
+    ⊎ ((sub : ℕ) × IsFirstFault width v6 field sub)

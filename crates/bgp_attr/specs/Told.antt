@@ -1,6 +1,7 @@
 -- What a list of attributes tells the router.
-use Rattle.std.specs.Prelude.{◌≡◌, ◌<◌, ℕ, Bool, ◌==◌, if◌then◌else◌, is_some, List, [], length, drop, Option, Some, None, option_map}
-use Rattle.bgp_attr.specs.Numbers.{number_of}
+use Rattle.std.specs.Prelude.{◌≡◌, ◌<◌, ℕ, Bool, ◌==◌, if◌then◌else◌, is_some, List, [], length, drop, Option, Some}
+use Rattle.std.specs.Prelude.{None, option_map}
+use Rattle.byteorder.specs.Endian.{big_number}
 use Rattle.as_path.specs.declared.widths.Width.{Width}
 use Rattle.as_path.specs.declared.widths.Width.TheVariants.{Two, Four}
 use Rattle.as_path.specs.Path.{Segment, IsPath, octets_per}
@@ -30,13 +31,14 @@ TellsAs4 Two (Some value) path = TellsAs4Path value path
 
 -- AGGREGATOR is an AS number, of as many octets as in AS_PATH, and an address (RFC 4271, section 4.3, g)
 abbrev pub aggregator_in : Width → Option (List ℕ) → Option ℕ
-aggregator_in width value = option_map (number_of (octets_per width)) value
+aggregator_in width value = option_map (big_number (octets_per width)) value
 
--- AS4_AGGREGATOR is discarded where it has not 8 octets, and from a peer of four-octet AS numbers (RFC 6793, sections 4.1 and 6)
+-- AS4_AGGREGATOR is discarded where it has not 8 octets, and from a peer of four-octet AS numbers (RFC 6793, sections
+-- 4.1 and 6)
 abbrev pub as4_aggregator_in : Width → Option (List ℕ) → Option ℕ
 as4_aggregator_in Four value = None
 as4_aggregator_in Two None = None
-as4_aggregator_in Two (Some value) = if length value == 8 then Some (number_of 4 value) else None
+as4_aggregator_in Two (Some value) = if length value == 8 then Some (big_number 4 value) else None
 
 -- the octets of the IPv6 prefixes of MP_REACH_NLRI, none where it is not there or passed over
 abbrev pub reach_in : Bool → Option (List ℕ) → List ℕ

@@ -2,11 +2,11 @@
 //! section 4.3).
 ghost use Rattle.std.specs.Prelude.{◌≡◌, ◌⊎◌, ◌≤◌, length};
 ghost use Rattle.std.specs.Option.{option_map};
-ghost use Rattle.bgp_attr.specs.Numbers.{number_of};
+ghost use Rattle.byteorder.specs.Endian.{big_number};
 ghost use Rattle.bgp_attr.specs.Attribute.{has_flag, length_octets};
 ghost use Rattle.bgp_attr.specs.Front.{attribute_front};
 
-use crate::numbers::number_16;
+use byteorder::{BigEndian, ByteOrder};
 use std::marker::Model;
 
 /// The attribute is not well known: a router that does not know its type passes over it.
@@ -83,11 +83,11 @@ fn length_octets(flags: u8) -> usize
 /// The number of one octet or of two.
 fn number(octets: &[u8]) -> usize
     requires { (length octets.now ≡ 1) ⊎ (length octets.now ≡ 2) }
-    ensures value { result ≡ number_of (length octets.now) octets.now }
+    ensures value { result ≡ big_number (length octets.now) octets.now }
     ensures within { result ≤ 65535 }
 {
     if octets.len() == 2 {
-        return number_16(octets) as usize;
+        return BigEndian::read_u16(octets) as usize;
     }
     octets[0] as usize
 }

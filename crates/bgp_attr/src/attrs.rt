@@ -6,12 +6,13 @@ ghost use Rattle.std.specs.Option.{ForSome};
 ghost use Rattle.as_path.specs.Path.{octets_per};
 ghost use Rattle.bgp_attr.specs.Slots.{AreFit};
 ghost use Rattle.bgp_attr.specs.Table.{IsAsPath, IsMpReach, IsMpUnreach};
-ghost use Rattle.bgp_attr.specs.Told.{TellsPath, TellsAs4, TellsValues, aggregator_in, as4_aggregator_in, reach_in, unreach_in};
+ghost use Rattle.bgp_attr.specs.Told.{TellsPath, TellsAs4, TellsValues, aggregator_in, as4_aggregator_in, reach_in};
+ghost use Rattle.bgp_attr.specs.Told.{unreach_in};
 
-use crate::numbers::{number_16, number_32};
 use crate::slots::Slots;
 use crate::values::{is_heeded, reach_place};
 use as_path::{Aggregators, PathView, Width};
+use byteorder::{BigEndian, ByteOrder};
 
 /// What the attributes of an UPDATE tell the router. It borrows their octets.
 #[derive(Debug, Drop)]
@@ -99,8 +100,8 @@ fn aggregator_of(value: Option<&[u8]>, width: Width) -> Option<u32>
         return None;
     };
     match width {
-        Width::Two => Some(number_16(value) as u32),
-        Width::Four => Some(number_32(value)),
+        Width::Two => Some(BigEndian::read_u16(value) as u32),
+        Width::Four => Some(BigEndian::read_u32(value)),
     }
 }
 
@@ -117,7 +118,7 @@ fn as4_aggregator_of(value: Option<&[u8]>, width: Width) -> Option<u32>
     if value.len() != 8 {
         return None;
     }
-    Some(number_32(value))
+    Some(BigEndian::read_u32(value))
 }
 
 /// The prefixes of MP_REACH_NLRI, unless it is passed over.

@@ -7,11 +7,11 @@ ghost use Rattle.bgp_attr.specs.Table.{value_subcode};
 
 use crate::attribute::{AttributeView, OPTIONAL, has_flag};
 use crate::subcodes::{
-    ATTRIBUTE_FLAGS_ERROR, ATTRIBUTE_LENGTH_ERROR, INVALID_NEXT_HOP, INVALID_ORIGIN,
-    MALFORMED_AS_PATH, MALFORMED_ATTRIBUTE_LIST, OPTIONAL_ATTRIBUTE_ERROR,
+    ATTRIBUTE_FLAGS_ERROR, ATTRIBUTE_LENGTH_ERROR, MALFORMED_ATTRIBUTE_LIST,
     UNRECOGNIZED_WELL_KNOWN_ATTRIBUTE,
 };
-use crate::types::{AttributeType, has_flags, has_length, type_from};
+use crate::table::{has_flags, has_length, row_of};
+use crate::types::type_from;
 use crate::values::has_value;
 use as_path::Width;
 
@@ -90,17 +90,5 @@ fn value_subcode(code: u8) -> u8
     let Some(attribute_type) = type_from(code) else {
         return 0;
     };
-    match attribute_type {
-        AttributeType::Origin => INVALID_ORIGIN,
-        AttributeType::AsPath => MALFORMED_AS_PATH,
-        AttributeType::NextHop => INVALID_NEXT_HOP,
-        AttributeType::MultiExitDisc => 0,
-        AttributeType::LocalPref => 0,
-        AttributeType::AtomicAggregate => 0,
-        AttributeType::Aggregator => 0,
-        AttributeType::MpReachNlri => OPTIONAL_ATTRIBUTE_ERROR,
-        AttributeType::MpUnreachNlri => OPTIONAL_ATTRIBUTE_ERROR,
-        AttributeType::As4Path => 0,
-        AttributeType::As4Aggregator => 0,
-    }
+    row_of(attribute_type, Width::Two).wrong
 }

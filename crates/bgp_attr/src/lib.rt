@@ -11,9 +11,9 @@ mod attribute;
 mod attrs;
 mod demands;
 mod laws;
-mod numbers;
 mod slots;
 mod subcodes;
+mod table;
 mod types;
 mod values;
 mod walking;
@@ -21,6 +21,3 @@ mod walking;
 pub use attrs::{AttrFault, Attrs};
 pub use laws::{assigned_numbers, one_outcome};
 pub use walking::walk;
-
-#[cfg(test)]
-mod tests;

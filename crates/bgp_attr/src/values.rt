@@ -1,14 +1,15 @@
 //! Values: the octets of an attribute's value come in, and whether they are as its type asks goes
 //! out (RFC 4271, sections 4.3 and 6.3; RFC 4760, sections 3 and 4).
 ghost use Rattle.std.specs.Prelude.{◌≡◌, ◌↔◌, ◌≤◌, ◌⊎◌, IsTrue, List, length, slice_index};
-ghost use Rattle.bgp_attr.specs.Numbers.{number_of};
+ghost use Rattle.byteorder.specs.Endian.{big_number};
 ghost use Rattle.bgp_attr.specs.Faults.{HasLength};
-ghost use Rattle.bgp_attr.specs.Table.{row, IsOrigin, IsAsPath, IsNextHop, IsMpReach, IsMpUnreach, IsReach, is_ipv6_unicast, is_heeded, reach_place};
+ghost use Rattle.bgp_attr.specs.Table.{row, IsOrigin, IsAsPath, IsNextHop, IsMpReach, IsMpUnreach, IsReach};
+ghost use Rattle.bgp_attr.specs.Table.{is_ipv6_unicast, is_heeded, reach_place};
 
-use crate::numbers::{number_16, number_32};
 use crate::types::AttributeType;
 use as_path::{PathView, Width};
 use bgp_nlri::{Family, check};
+use byteorder::{BigEndian, ByteOrder};
 
 /// The greatest ORIGIN, INCOMPLETE.
 const INCOMPLETE: u8 = 2;
@@ -67,7 +68,7 @@ fn is_next_hop(value: &[u8]) -> bool
     requires { length value.now ≡ 4 }
     ensures { IsTrue result ↔ IsNextHop value.now }
 {
-    if number_32(value) == 0 {
+    if BigEndian::read_u32(value) == 0 {
         return false;
     }
     value[0] < MULTICAST
@@ -139,7 +140,7 @@ pub fn is_heeded(value: &[u8], v6: bool) -> bool
     if !v6 {
         return false;
     }
-    if number_16(value) != IPV6 {
+    if BigEndian::read_u16(value) != IPV6 {
         return false;
     }
     value[2] == UNICAST

@@ -30,7 +30,7 @@ pub fn walk(field: &[u8], width: Width, v6: bool) -> Result<Attrs<'_>, AttrFault
 
     // The fault is the first of the field, and the first fault is answered.
     ensures fault { IfErr result (λ fault. IsFirstFault width v6 field.now fault.sub) }
-    ensures fault_only { (sub : ℕ) → IsFirstFault width v6 field.now sub
+    ensures only_fault { (sub : ℕ) → IsFirstFault width v6 field.now sub
         → IsErrAnd result (λ fault. fault.sub ≡ sub) }
 
     // The fields of IPv6 prefixes are well formed.

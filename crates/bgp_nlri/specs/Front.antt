@@ -7,11 +7,13 @@ use Rattle.bgp_nlri.specs.Nlri.{octets_for, bits_of, addr_from, filled_up}
 
 -- the prefix of this length whose octets begin the text, and the octets after them
 abbrev pub cut_prefix : Family → ℕ → List ℕ → Block × List ℕ
-cut_prefix family len text = (block_of len (addr_from family (filled_up family (take (octets_for len) text))), drop (octets_for len) text)
+cut_prefix family len text =
+    (block_of len (addr_from family (filled_up family (take (octets_for len) text))), drop (octets_for len) text)
 
 -- none where the length is past the family's bound, or there are too few octets
 abbrev pub prefix_after : Family → ℕ → List ℕ → Option (Block × List ℕ)
-prefix_after family len text = if nat_lt (bits_of family) len then None else if nat_lt (length text) (octets_for len) then None else Some (cut_prefix family len text)
+prefix_after family len text = if nat_lt (bits_of family) len then None else if nat_lt (length text) (octets_for len)
+    then None else Some (cut_prefix family len text)
 
 -- the first prefix of a field, and what is left of the field
 abbrev pub prefix_front : Family → List ℕ → Option (Block × List ℕ)

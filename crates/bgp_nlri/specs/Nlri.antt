@@ -1,4 +1,5 @@
--- A field of prefixes: each is a length octet and the octets that hold so many bits (RFC 4271, section 4.3; RFC 4760, section 5).
+-- A field of prefixes: each is a length octet and the octets that hold so many bits (RFC 4271, section 4.3; RFC 4760,
+-- section 5).
 use Rattle.std.specs.Prelude.{◌≡◌, ℕ, ◌+◌, ◌-◌, ◌/◌, ◌≤◌, List, ◌∷◌, ◌++◌, length, replicate}
 use Rattle.std.specs.Int.{w32, w128, from_be_bytes}
 use Rattle.urpf_base.specs.declared.address.Addr.{Addr}
@@ -26,7 +27,8 @@ addr_from V6 octets = addr.V6 (from_be_bytes w128 octets)
 abbrev pub filled_up : Family → List ℕ → List ℕ
 filled_up family octets = octets ++ replicate (octets_for (bits_of family) - length octets) 0
 
--- the octets are one prefix: its length in bits, and the least number of octets for so many; bits past the length are irrelevant
+-- the octets are one prefix: its length in bits, and the least number of octets for so many; bits past the length are
+-- irrelevant
 pub record SpellsPrefix (family : Family) (text : List ℕ) (prefix : Block) : Type 0 where
   pub len : ℕ
   pub octets : List ℕ

@@ -13,6 +13,3 @@ mod spelling;
 
 pub use family::Family;
 pub use fields::{Prefixes, check};
-
-#[cfg(test)]
-mod tests;

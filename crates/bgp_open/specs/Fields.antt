@@ -1,5 +1,6 @@
 -- Fields of a code, a length and a value (RFC 4271, section 4.2; RFC 5492, section 4).
-use Rattle.std.specs.Prelude.{◌≡◌, ℕ, ◌+◌, ◌==◌, Bool, nat_le, if◌then◌else◌, List, [], ◌∷◌, length, take, drop, Option, Some, None}
+use Rattle.std.specs.Prelude.{◌≡◌, ℕ, ◌+◌, ◌==◌, Bool, nat_le, if◌then◌else◌, List, [], ◌∷◌, length, take, drop, Option}
+use Rattle.std.specs.Prelude.{Some, None}
 use Rattle.urpf_base.specs.Series.{values_in}
 
 -- a parameter with its type, or a capability with its code, and its value

@@ -1,5 +1,6 @@
 -- The body of an OPEN, what it says, and its first fault (RFC 4271, sections 4.2 and 6.2).
-use Rattle.std.specs.Prelude.{ℕ, ◌==◌, ◌||◌, not, Bool, if◌then◌else◌, List, [], ◌∷◌, length, drop, slice_index, unwrap_or, is_some, Option, Some, None}
+use Rattle.std.specs.Prelude.{ℕ, ◌==◌, ◌||◌, not, Bool, if◌then◌else◌, List, [], ◌∷◌, length, drop, slice_index}
+use Rattle.std.specs.Prelude.{unwrap_or, is_some, Option, Some, None}
 use Rattle.std.specs.List.{flat_map}
 use Rattle.std.specs.Option.{option_or}
 use Rattle.byteorder.specs.Endian.{big_number}
@@ -7,7 +8,9 @@ use Rattle.bgp_open.specs.Fields.{Field, fields_in, are_fields}
 use Rattle.bgp_open.specs.Capabilities.{are_capabilities, told_by}
 use Rattle.bgp_open.specs.declared.capabilities.Told.{Told}
 use Rattle.bgp_open.specs.declared.opening.OpenSeen.{OpenSeen}
-use Rattle.bgp_open.specs.declared.faults.TheConstants.{UNSPECIFIC, UNSUPPORTED_VERSION_NUMBER, BAD_PEER_AS, BAD_BGP_IDENTIFIER, UNSUPPORTED_OPTIONAL_PARAMETER, UNACCEPTABLE_HOLD_TIME}
+use Rattle.bgp_open.specs.declared.faults.TheConstants.{UNSPECIFIC, UNSUPPORTED_VERSION_NUMBER, BAD_PEER_AS}
+use Rattle.bgp_open.specs.declared.faults.TheConstants.{BAD_BGP_IDENTIFIER, UNSUPPORTED_OPTIONAL_PARAMETER}
+use Rattle.bgp_open.specs.declared.faults.TheConstants.{UNACCEPTABLE_HOLD_TIME}
 
 -- the hold time in seconds, octets 3 and 4
 abbrev pub hold_field : List ℕ → ℕ

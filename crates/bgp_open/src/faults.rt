@@ -1,4 +1,7 @@
-//! The faults of an OPEN, by their subcodes of OPEN Message Error, code 2 (RFC 4271, section 6.2).
+//! The faults of an OPEN, by their subcodes of OPEN Message Error (RFC 4271, section 6.2).
+
+/// The error code of a faulty OPEN (RFC 4271, section 4.5).
+pub const OPEN_MESSAGE_ERROR: u8 = 2;
 
 /// A fault that has no subcode of its own.
 pub const UNSPECIFIC: u8 = 0;

@@ -5,13 +5,14 @@ ghost use Rattle.urpf_base.specs.Series.{SpellsAll};
 ghost use Rattle.bgp_open.specs.Fields.{Field, SpellsField, are_fields, fields_in};
 
 use crate::faults::{
-    BAD_BGP_IDENTIFIER, BAD_PEER_AS, UNACCEPTABLE_HOLD_TIME, UNSPECIFIC,
+    BAD_BGP_IDENTIFIER, BAD_PEER_AS, OPEN_MESSAGE_ERROR, UNACCEPTABLE_HOLD_TIME, UNSPECIFIC,
     UNSUPPORTED_OPTIONAL_PARAMETER, UNSUPPORTED_VERSION_NUMBER,
 };
 
-/// The subcodes have the numbers that the standard assigns (RFC 4271, section 4.5). Contracts and
+/// The code and its subcodes have the numbers that the standard assigns (RFC 4271, section 4.5). Contracts and
 /// definitions cite them by name.
 pub fn assigned_numbers()
+    ensures code { OPEN_MESSAGE_ERROR ≡ 2 }
     ensures first { (UNSPECIFIC ≡ 0) × (UNSUPPORTED_VERSION_NUMBER ≡ 1) × (BAD_PEER_AS ≡ 2) }
     ensures second { (BAD_BGP_IDENTIFIER ≡ 3) × (UNSUPPORTED_OPTIONAL_PARAMETER ≡ 4)
         × (UNACCEPTABLE_HOLD_TIME ≡ 6) }

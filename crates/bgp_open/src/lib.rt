@@ -13,12 +13,9 @@ mod opening;
 mod parameters;
 
 pub use faults::{
-    BAD_BGP_IDENTIFIER, BAD_PEER_AS, OpenFault, UNACCEPTABLE_HOLD_TIME, UNSPECIFIC,
-    UNSUPPORTED_OPTIONAL_PARAMETER, UNSUPPORTED_VERSION_NUMBER,
+    BAD_BGP_IDENTIFIER, BAD_PEER_AS, OPEN_MESSAGE_ERROR, OpenFault, UNACCEPTABLE_HOLD_TIME,
+    UNSPECIFIC, UNSUPPORTED_OPTIONAL_PARAMETER, UNSUPPORTED_VERSION_NUMBER,
 };
 pub use laws::{assigned_numbers, one_list_of_fields};
 pub use notification::read_notification;
 pub use opening::{OpenSeen, read_open};
-
-#[cfg(test)]
-mod tests;

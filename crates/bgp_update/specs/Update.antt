@@ -34,7 +34,8 @@ pub record HasMandatory (v6 : Bool) (nlri : List ℕ) (held : Values) : Type 0 w
 
 -- the AS numbers of AGGREGATOR and AS4_AGGREGATOR
 abbrev pub aggregators_in : Width → Values → Aggregators
-aggregators_in width held = record { own = aggregator_in width held.aggregator; four = as4_aggregator_in width held.as4_aggregator }
+aggregators_in width held =
+    record { own = aggregator_in width held.aggregator; four = as4_aggregator_in width held.as4_aggregator }
 
 -- the origin of the path that AS_PATH and AS4_PATH make together, none where AS_PATH is missing
 abbrev pub route_origin : Option (List Segment) → Option (List Segment) → Aggregators → Option ℕ

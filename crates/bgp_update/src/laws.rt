@@ -7,12 +7,14 @@ ghost use Rattle.bgp_update.specs.Update.{IsUpdate};
 
 use crate::subcodes::{
     INVALID_NETWORK_FIELD, MALFORMED_ATTRIBUTE_LIST, MISSING_WELL_KNOWN_ATTRIBUTE,
+    UPDATE_MESSAGE_ERROR,
 };
 
-/// The subcodes have the numbers that the standard assigns (RFC 4271, section 4.5). Contracts and
+/// The code and its subcodes have the numbers that the standard assigns (RFC 4271, section 4.5). Contracts and
 /// definitions cite them by name.
 pub fn assigned_numbers()
-    ensures { (MALFORMED_ATTRIBUTE_LIST ≡ 1) × (MISSING_WELL_KNOWN_ATTRIBUTE ≡ 3)
+    ensures code { UPDATE_MESSAGE_ERROR ≡ 3 }
+    ensures subcodes { (MALFORMED_ATTRIBUTE_LIST ≡ 1) × (MISSING_WELL_KNOWN_ATTRIBUTE ≡ 3)
         × (INVALID_NETWORK_FIELD ≡ 10) }
 {}
 

@@ -18,7 +18,5 @@ mod view;
 
 pub use laws::{assigned_numbers, one_outcome};
 pub use reading::{UpdateFault, read_update};
+pub use subcodes::UPDATE_MESSAGE_ERROR;
 pub use view::{Announced, UpdateView, Withdrawn};
-
-#[cfg(test)]
-mod tests;

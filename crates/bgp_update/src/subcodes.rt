@@ -1,5 +1,8 @@
-//! The subcodes of faults in the body of an UPDATE that are not those of one attribute, under the
-//! code of an UPDATE's faults, 3 (RFC 4271, section 6.3).
+//! The error code of an UPDATE, and the subcodes of faults in its body that are not those of one
+//! attribute (RFC 4271, section 6.3).
+
+/// The error code of a faulty UPDATE (RFC 4271, section 4.5).
+pub const UPDATE_MESSAGE_ERROR: u8 = 3;
 
 /// The withdrawn routes and the path attributes are longer than the body.
 pub const MALFORMED_ATTRIBUTE_LIST: u8 = 1;

@@ -1,11 +1,13 @@
 -- A stream is framed in one way and no other.
-use Rattle.std.proofs.Common.{◌≡◌, ◌⊎◌, ℕ, zero, suc, ◌<◌, ◌≤◌, List, [], ◌∷◌, ◌++◌, length, take, drop, Option, Some, None, ap, sym, ◌∙◌, refl, inl, inr, arith, subst, append_assoc}
+use Rattle.std.proofs.Common.{◌≡◌, ◌⊎◌, ℕ, zero, suc, ◌<◌, ◌≤◌, List, [], ◌∷◌, ◌++◌, length, take, drop, Option, Some}
+use Rattle.std.proofs.Common.{None, ap, sym, ◌∙◌, refl, inl, inr, arith, subst, append_assoc}
 use Rattle.std.proofs.lemmas.List.{take_at, drop_at, take-append-drop, length-take-le, length-drop}
 use Rattle.std.proofs.lemmas.Bool.{cases_order}
 use Rattle.std.specs.List.{concat, AllByRecursion}
 use Rattle.bgp_wire.specs.Header.{header_fault, length_field}
 use Rattle.bgp_wire.specs.Frames.{IsMessage, End, Clean, Fault, EndsAs, Framing}
-use Rattle.bgp_wire.proofs.Headers.{header_fault-append, length_field-append, length_in_range, message_in_front, faulty_not_short, message_not_short}
+use Rattle.bgp_wire.proofs.Headers.{header_fault-append, length_field-append, length_in_range, message_in_front}
+use Rattle.bgp_wire.proofs.Headers.{faulty_not_short, message_not_short}
 
 from_order : (a b : ℕ) → (a ≡ b) ⊎ ((a < b) ⊎ (b < a)) → (a < b) ⊎ (b ≤ a)
 from_order a b (inl same) = inr (omega arith)
@@ -37,7 +39,8 @@ one_more message more is later = record {
 }
 
 -- a header with no fault, and all octets that its length field counts
-front_message : (stream : List ℕ) → 19 ≤ length stream → header_fault stream ≡ None → length_field stream ≤ length stream → IsMessage (take (length_field stream) stream)
+front_message : (stream : List ℕ) → 19 ≤ length stream → header_fault stream ≡ None
+    → length_field stream ≤ length stream → IsMessage (take (length_field stream) stream)
 front_message stream header good enough =
     let count : ℕ = length_field stream in
     let front = take count stream in
@@ -51,7 +54,9 @@ front_message stream header good enough =
       whole = long ∙ sym (sym (length_field-append front (drop count stream) whole) ∙ ap length_field joined);
     }
 
-by_length : (stream : List ℕ) (k : ℕ) → ((more : List ℕ) → length more ≤ k → Framing more) → length stream ≤ suc k → 19 ≤ length stream → header_fault stream ≡ None → (length stream < length_field stream) ⊎ (length_field stream ≤ length stream) → Framing stream
+by_length : (stream : List ℕ) (k : ℕ) → ((more : List ℕ) → length more ≤ k → Framing more) → length stream ≤ suc k
+    → 19 ≤ length stream → header_fault stream ≡ None → (length stream < length_field stream)
+    ⊎ (length_field stream ≤ length stream) → Framing stream
 by_length stream k later within header good (inl few) = no_messages stream Clean (inr (good, few))
 by_length stream k later within header good (inr enough) =
     let count : ℕ = length_field stream in
@@ -60,11 +65,14 @@ by_length stream k later within header good (inr enough) =
     (one_more (take count stream) (drop count stream) (front_message stream header good enough)
     (later (drop count stream) (omega (arith, length-drop count stream))))
 
-by_fault : (stream : List ℕ) (k : ℕ) → ((more : List ℕ) → length more ≤ k → Framing more) → length stream ≤ suc k → 19 ≤ length stream → (fault : Option ℕ) → header_fault stream ≡ fault → Framing stream
-by_fault stream k later within header (Some subcode) is = no_messages stream (Fault subcode) (record { header = header; fault = is })
+by_fault : (stream : List ℕ) (k : ℕ) → ((more : List ℕ) → length more ≤ k → Framing more) → length stream ≤ suc k
+    → 19 ≤ length stream → (fault : Option ℕ) → header_fault stream ≡ fault → Framing stream
+by_fault stream k later within header (Some subcode) is =
+    no_messages stream (Fault subcode) (record { header = header; fault = is })
 by_fault stream k later within header None is = by_length stream k later within header is (lt_or_le _ _)
 
-by_header : (stream : List ℕ) (k : ℕ) → ((more : List ℕ) → length more ≤ k → Framing more) → length stream ≤ suc k → (length stream < 19) ⊎ (19 ≤ length stream) → Framing stream
+by_header : (stream : List ℕ) (k : ℕ) → ((more : List ℕ) → length more ≤ k → Framing more) → length stream ≤ suc k
+    → (length stream < 19) ⊎ (19 ≤ length stream) → Framing stream
 by_header stream k later within (inl few) = no_messages stream Clean (inl few)
 by_header stream k later within (inr header) = by_fault stream k later within header (header_fault stream) refl
 
@@ -93,31 +101,43 @@ not_end message more (Fault subcode) is ends =
     cc
 
 -- two messages in front of the same octets are one
-same_front : (message other more rest : List ℕ) → IsMessage message → IsMessage other → message ++ more ≡ other ++ rest → (message ≡ other) × (more ≡ rest)
+same_front : (message other more rest : List ℕ) → IsMessage message → IsMessage other → message ++ more ≡ other ++ rest
+    → (message ≡ other) × (more ≡ rest)
 same_front message other more rest is is_other joined =
-    let long : length message ≡ length other = sym (message_in_front message more is).2 ∙ ap length_field joined ∙ (message_in_front other rest is_other).2 in (
-      sym (take_at message more (length other) long) ∙ ap (take (length other)) joined ∙ take_at other rest (length other) refl,
-      sym (drop_at message more (length other) long) ∙ ap (drop (length other)) joined ∙ drop_at other rest (length other) refl,
+    let long : length message ≡ length other = sym (message_in_front message more is).2 ∙ ap length_field joined
+    ∙ (message_in_front other rest is_other).2 in (
+      sym (take_at message more (length other) long) ∙ ap (take (length other)) joined
+          ∙ take_at other rest (length other) refl,
+      sym (drop_at message more (length other) long) ∙ ap (drop (length other)) joined
+          ∙ drop_at other rest (length other) refl,
     )
 
 abbrev AreSame : List (List ℕ) → List (List ℕ) → List ℕ → List ℕ → End → End → Type 0
 AreSame messages others rest other end last = (messages ≡ others) × (rest ≡ other) × (end ≡ last)
 
 -- two ways to frame one text are the same
-same_frames : (messages others : List (List ℕ)) (rest other : List ℕ) (end last : End) → AllByRecursion IsMessage messages → AllByRecursion IsMessage others → EndsAs rest end → EndsAs other last → concat messages ++ rest ≡ concat others ++ other → AreSame messages others rest other end last
+same_frames : (messages others : List (List ℕ)) (rest other : List ℕ) (end last : End)
+    → AllByRecursion IsMessage messages → AllByRecursion IsMessage others → EndsAs rest end → EndsAs other last
+    → concat messages ++ rest ≡ concat others ++ other → AreSame messages others rest other end last
 same_frames [] [] rest other end last each each_other ends lasts joined =
     (refl, joined, one_end other end last (subst (λ (t : List ℕ). EndsAs t end) joined ends) lasts)
 same_frames [] (n ∷ ns) rest other end last each each_other ends lasts joined =
-    absurd (not_end n (concat ns ++ other) end each_other.0 (subst (λ (t : List ℕ). EndsAs t end) (joined ∙ append_assoc n (concat ns) other) ends))
+    absurd (not_end n (concat ns ++ other) end each_other.0
+    (subst (λ (t : List ℕ). EndsAs t end) (joined ∙ append_assoc n (concat ns) other) ends))
 same_frames (m ∷ ms) [] rest other end last each each_other ends lasts joined =
-    absurd (not_end m (concat ms ++ rest) last each.0 (subst (λ (t : List ℕ). EndsAs t last) (sym joined ∙ append_assoc m (concat ms) rest) lasts))
+    absurd (not_end m (concat ms ++ rest) last each.0
+    (subst (λ (t : List ℕ). EndsAs t last) (sym joined ∙ append_assoc m (concat ms) rest) lasts))
 same_frames (m ∷ ms) (n ∷ ns) rest other end last each each_other ends lasts joined =
-    let fronts = same_front m n (concat ms ++ rest) (concat ns ++ other) each.0 each_other.0 (sym (append_assoc m (concat ms) rest) ∙ joined ∙ append_assoc n (concat ns) other) in
+    let fronts =
+    same_front m n (concat ms ++ rest) (concat ns ++ other) each.0 each_other.0
+    (sym (append_assoc m (concat ms) rest) ∙ joined ∙ append_assoc n (concat ns) other) in
     let later = same_frames ms ns rest other end last each.1 each_other.1 ends lasts fronts.1 in
     let messages : m ∷ ms ≡ n ∷ ns = ap (λ x. x ∷ ms) fronts.0 ∙ ap (λ xs. n ∷ xs) later.0 in
     (messages, later.1, later.2)
 
 -- no stream is framed in two ways
-pub one_framing : (stream : List ℕ) (a b : Framing stream) → (a.messages ≡ b.messages) × (a.rest ≡ b.rest) × (a.end ≡ b.end)
+pub one_framing : (stream : List ℕ) (a b : Framing stream) → (a.messages ≡ b.messages) × (a.rest ≡ b.rest)
+    × (a.end ≡ b.end)
 one_framing stream a b =
-    same_frames a.messages b.messages a.rest b.rest a.end b.end a.framed.each b.framed.each a.framed.ends b.framed.ends (sym a.framed.parts ∙ b.framed.parts)
+    same_frames a.messages b.messages a.rest b.rest a.end b.end a.framed.each b.framed.each a.framed.ends b.framed.ends
+    (sym a.framed.parts ∙ b.framed.parts)

@@ -1,5 +1,6 @@
 -- What a header without a fault says, and that octets behind it do not count.
-use Rattle.std.proofs.Common.{◌≡◌, ℕ, ◌≤◌, Bool, true, false, List, ◌++◌, length, drop, Option, Some, None, ap, sym, ◌∙◌, refl, inl, inr, arith, subst, length-append}
+use Rattle.std.proofs.Common.{◌≡◌, ℕ, ◌≤◌, Bool, true, false, List, ◌++◌, length, drop, Option, Some, None, ap, sym}
+use Rattle.std.proofs.Common.{◌∙◌, refl, inl, inr, arith, subst, length-append}
 use Rattle.std.proofs.Math.ListN.{get_or-append}
 use Rattle.std.proofs.lemmas.Bool.Decides.{nat_tests}
 use Rattle.std.proofs.lemmas.List.{take-append-le, drop-append-le, length-drop}
@@ -7,7 +8,8 @@ use Rattle.std.specs.List.{list_all}
 use Rattle.std.specs.Prelude.{◌==◌, not, nat_le, if◌then◌else◌}
 use Rattle.byteorder.specs.Endian.{big_number}
 use Rattle.byteorder.specs.Numbers.{big_from-append}
-use Rattle.bgp_wire.specs.Header.{has_marker, length_field, type_field, is_length, is_type, fits_type, first_fault, header_fault}
+use Rattle.bgp_wire.specs.Header.{has_marker, length_field, type_field, is_length, is_type, fits_type, first_fault}
+use Rattle.bgp_wire.specs.Header.{header_fault}
 use Rattle.bgp_wire.specs.Frames.{IsMessage, IsShort, IsFaulty}
 use Rattle.bgp_wire.specs.States.{kind_of, FitsKind}
 use Rattle.bgp_wire.specs.declared.kinds.MsgKind.TheVariants.{Open, Update, Notification, Keepalive}
@@ -16,7 +18,8 @@ pub has_marker-append : (octets more : List ℕ) → 19 ≤ length octets → ha
 has_marker-append octets more header =
     ap (list_all (λ octet. octet == 255)) (take-append-le 16 octets more (omega arith))
 
-pub length_field-append : (octets more : List ℕ) → 19 ≤ length octets → length_field (octets ++ more) ≡ length_field octets
+pub length_field-append : (octets more : List ℕ) → 19 ≤ length octets
+    → length_field (octets ++ more) ≡ length_field octets
 length_field-append octets more header =
     ap (big_number 2) (drop-append-le 16 octets more (omega arith))
     ∙ big_from-append 2 (drop 16 octets) more (omega (arith, length-drop 16 octets))
@@ -24,16 +27,21 @@ length_field-append octets more header =
 pub type_field-append : (octets more : List ℕ) → 19 ≤ length octets → type_field (octets ++ more) ≡ type_field octets
 type_field-append octets more header = get_or-append octets more 0 18 (omega arith)
 
-first_fault-same : (marked other : Bool) (count length : ℕ) (code kind : ℕ) → marked ≡ other → count ≡ length → code ≡ kind → first_fault marked count code ≡ first_fault other length kind
+first_fault-same : (marked other : Bool) (count length : ℕ) (code kind : ℕ) → marked ≡ other → count ≡ length
+    → code ≡ kind → first_fault marked count code ≡ first_fault other length kind
 first_fault-same marked other count length code kind same_marker same_length same_type =
-    ap (λ m. first_fault m count code) same_marker ∙ ap (λ n. first_fault other n code) same_length ∙ ap (first_fault other length) same_type
+    ap (λ m. first_fault m count code) same_marker ∙ ap (λ n. first_fault other n code) same_length
+    ∙ ap (first_fault other length) same_type
 
 -- the fault of a header stands in its 19 octets
-pub header_fault-append : (octets more : List ℕ) → 19 ≤ length octets → header_fault (octets ++ more) ≡ header_fault octets
+pub header_fault-append : (octets more : List ℕ) → 19 ≤ length octets
+    → header_fault (octets ++ more) ≡ header_fault octets
 header_fault-append octets more header =
-    first_fault-same _ _ _ _ _ _ (has_marker-append octets more header) (length_field-append octets more header) (type_field-append octets more header)
+    first_fault-same _ _ _ _ _ _ (has_marker-append octets more header) (length_field-append octets more header)
+    (type_field-append octets more header)
 
-passed : (test : Bool) (fault : ℕ) (later : Option ℕ) → (if not test then Some fault else later) ≡ None → (test ≡ true) × (later ≡ None)
+passed : (test : Bool) (fault : ℕ) (later : Option ℕ) → (if not test then Some fault else later) ≡ None
+    → (test ≡ true) × (later ≡ None)
 passed true fault later none = (refl, none)
 passed false fault later none = cc
 
@@ -58,10 +66,16 @@ is_length-true : (count : ℕ) → is_length count ≡ true → (19 ≤ count) �
 is_length-true count is = grind (arith, nat_tests)
 
 -- the length of a header with no fault is in its range
-pub length_in_range : (octets : List ℕ) → header_fault octets ≡ None → (19 ≤ length_field octets) × (length_field octets ≤ 4096)
+pub length_in_range : (octets : List ℕ) → header_fault octets ≡ None
+    → (19 ≤ length_field octets) × (length_field octets ≤ 4096)
 length_in_range octets none = is_length-true _ (good_header octets none).length
 
-fits_kind-cases : (opens update notification : Bool) (count : ℕ) → (if opens then nat_le 29 count else if update then nat_le 23 count else if notification then nat_le 21 count else count == 19) ≡ true → FitsKind (if opens then Open else if update then Update else if notification then Notification else Keepalive) count
+fits_kind-cases : (opens update notification : Bool) (count : ℕ)
+    → (if opens then nat_le 29 count else if update then nat_le 23 count else if notification then nat_le 21 count
+    else count == 19) ≡ true
+    → FitsKind
+    (if opens then Open else if update then Update else if notification then Notification else Keepalive)
+    count
 fits_kind-cases true update notification count fits = grind (arith, nat_tests)
 fits_kind-cases false true notification count fits = grind (arith, nat_tests)
 fits_kind-cases false false true count fits = grind (arith, nat_tests)
@@ -70,11 +84,14 @@ fits_kind-cases false false false count fits = grind (arith, nat_tests)
 -- a message is as long as its kind asks
 pub fits_kind : (octets : List ℕ) → IsMessage octets → FitsKind (kind_of (type_field octets)) (length octets)
 fits_kind octets message =
-    let fits : FitsKind (kind_of (type_field octets)) (length_field octets) = fits_kind-cases (type_field octets == 1) (type_field octets == 2) (type_field octets == 3) _ (good_header octets message.good).fits in
+    let fits : FitsKind (kind_of (type_field octets)) (length_field octets) = fits_kind-cases (type_field octets == 1)
+    (type_field octets == 2) (type_field octets == 3) _ (good_header octets message.good).fits in
     subst (λ (n : ℕ). FitsKind (kind_of (type_field octets)) n) (sym message.whole) fits
 
 -- what begins with a message has no header fault, and its length field is that of the message
-pub message_in_front : (message more : List ℕ) → IsMessage message → (19 ≤ length (message ++ more)) × (header_fault (message ++ more) ≡ None) × (length_field (message ++ more) ≡ length message)
+pub message_in_front : (message more : List ℕ) → IsMessage message
+    → (19 ≤ length (message ++ more)) × (header_fault (message ++ more) ≡ None)
+    × (length_field (message ++ more) ≡ length message)
 message_in_front message more is = (
   omega (arith, length-append message more, is.header),
   header_fault-append message more is.header ∙ is.good,
@@ -84,7 +101,8 @@ message_in_front message more is = (
 -- a header with a fault waits for no octet
 pub faulty_not_short : (octets : List ℕ) (subcode : ℕ) → IsFaulty octets subcode → IsShort octets → ⊥
 faulty_not_short octets subcode faulty (inl few) = omega (arith, faulty.header)
-faulty_not_short octets subcode faulty (inr partial) = let both : None ≡ Some subcode = sym partial.0 ∙ faulty.fault in cc
+faulty_not_short octets subcode faulty (inr partial) = let both : None ≡ Some subcode = sym partial.0 ∙ faulty.fault in
+    cc
 
 -- what begins with a message waits for no octet of it
 pub message_not_short : (message more : List ℕ) → IsMessage message → IsShort (message ++ more) → ⊥

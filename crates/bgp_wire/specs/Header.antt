@@ -1,8 +1,12 @@
 -- The header of a message, and its first fault (RFC 4271, sections 4.1 and 6.1).
-use Rattle.std.specs.Prelude.{ℕ, ◌==◌, ◌&&◌, nat_le, if◌then◌else◌, Bool, not, List, take, drop, slice_index, Option, Some, None}
+use Rattle.std.specs.Prelude.{ℕ, ◌==◌, ◌&&◌, nat_le, if◌then◌else◌, Bool, not, List, take, drop, slice_index, Option}
+use Rattle.std.specs.Prelude.{Some, None}
 use Rattle.std.specs.List.{list_all}
 use Rattle.byteorder.specs.Endian.{big_number}
-use Rattle.bgp_wire.specs.declared.header.TheConstants.{CONNECTION_NOT_SYNCHRONIZED, BAD_MESSAGE_LENGTH, BAD_MESSAGE_TYPE, OPEN, UPDATE, NOTIFICATION}
+use Rattle.bgp_wire.specs.Lengths.{least_length}
+use Rattle.bgp_wire.specs.declared.kinds.MsgKind.TheVariants.{Open, Update, Notification, Keepalive}
+use Rattle.bgp_wire.specs.declared.header.TheConstants.{CONNECTION_NOT_SYNCHRONIZED, BAD_MESSAGE_LENGTH}
+use Rattle.bgp_wire.specs.declared.header.TheConstants.{BAD_MESSAGE_TYPE, OPEN, UPDATE, NOTIFICATION}
 
 -- the marker is sixteen octets of all ones (RFC 4271, section 4.1)
 abbrev pub has_marker : List ℕ → Bool
@@ -27,9 +31,9 @@ is_type code = nat_le 1 code && nat_le code 4
 -- the length that a message of this type needs (RFC 4271, sections 4.2, 4.3, 4.5 and 4.4)
 abbrev pub fits_type : ℕ → ℕ → Bool
 fits_type code count =
-    if code == OPEN then nat_le 29 count else
-    if code == UPDATE then nat_le 23 count else
-    if code == NOTIFICATION then nat_le 21 count else count == 19
+    if code == OPEN then nat_le (least_length Open) count else
+    if code == UPDATE then nat_le (least_length Update) count else
+    if code == NOTIFICATION then nat_le (least_length Notification) count else count == least_length Keepalive
 
 -- the first fault of a header with this marker, length and type (RFC 4271, section 6.1)
 abbrev pub first_fault : Bool → ℕ → ℕ → Option ℕ

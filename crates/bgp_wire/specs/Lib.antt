@@ -1,3 +1,4 @@
 pub mod Frames
 pub mod Header
+pub mod Lengths
 pub mod States

@@ -2,6 +2,7 @@
 use Rattle.std.specs.Prelude.{◌≡◌, ℕ, ◌<◌, ◌≤◌, ◌==◌, if◌then◌else◌, List, length, None}
 use Rattle.bgp_wire.specs.Header.{header_fault, length_field, type_field}
 use Rattle.bgp_wire.specs.Frames.{IsMessage, IsShort, IsFaulty}
+use Rattle.bgp_wire.specs.Lengths.{least_length}
 use Rattle.bgp_wire.specs.declared.header.TheConstants.{OPEN, UPDATE, NOTIFICATION}
 use Rattle.bgp_wire.specs.declared.kinds.MsgKind.{MsgKind}
 use Rattle.bgp_wire.specs.declared.kinds.MsgKind.TheVariants.{Open, Update, Notification, Keepalive}
@@ -20,12 +21,12 @@ IsState held (Partial count) = IsShort held × (count ≡ length held)
 IsState held (Whole kind) = IsMessage held × (kind ≡ kind_of (type_field held))
 IsState held (Fault subcode) = IsFaulty held subcode
 
--- a message of this kind has at least so many octets (RFC 4271, sections 4.2, 4.3, 4.5 and 4.4)
+-- a message of this kind may have so many octets: a KEEPALIVE has no others (RFC 4271, section 4.4)
 abbrev pub FitsKind : MsgKind → ℕ → Type 0
-FitsKind Open count = 29 ≤ count
-FitsKind Update count = 23 ≤ count
-FitsKind Notification count = 21 ≤ count
-FitsKind Keepalive count = count ≡ 19
+FitsKind Open count = least_length Open ≤ count
+FitsKind Update count = least_length Update ≤ count
+FitsKind Notification count = least_length Notification ≤ count
+FitsKind Keepalive count = count ≡ least_length Keepalive
 
 -- where the state is that of a whole message, it is as long as its kind asks
 abbrev pub IsLongEnough : List ℕ → FrameState → Type 0

@@ -11,6 +11,9 @@ ghost use Rattle.bgp_wire.specs.Header as spec;
 
 use byteorder::{BigEndian, ByteOrder};
 
+/// The error code of a faulty header (RFC 4271, sections 4.5 and 6.1).
+pub const MESSAGE_HEADER_ERROR: u8 = 1;
+
 /// The marker is not all ones (RFC 4271, section 6.1).
 pub const CONNECTION_NOT_SYNCHRONIZED: u8 = 1;
 

@@ -6,16 +6,19 @@ ghost use Rattle.bgp_wire.specs.Header.{header_fault, length_field, type_field};
 ghost use Rattle.bgp_wire.specs.States.{FitsKind, kind_of};
 
 use crate::header::{
-    BAD_MESSAGE_LENGTH, BAD_MESSAGE_TYPE, CONNECTION_NOT_SYNCHRONIZED, KEEPALIVE, NOTIFICATION,
-    OPEN, UPDATE,
+    BAD_MESSAGE_LENGTH, BAD_MESSAGE_TYPE, CONNECTION_NOT_SYNCHRONIZED, HEADER_OCTETS, KEEPALIVE,
+    MESSAGE_HEADER_ERROR, NOTIFICATION, OPEN, UPDATE,
 };
 
-/// The subcodes and the types have the numbers that the standard assigns (RFC 4271, sections 4.1
-/// and 6.1). Contracts and definitions cite them by name.
+/// The code and its subcodes, the types and the length of a header have the numbers that the
+/// standard assigns (RFC 4271, sections 4.1, 4.5 and 6.1). Contracts and definitions cite them by
+/// name.
 pub fn assigned_numbers()
+    ensures code { MESSAGE_HEADER_ERROR ≡ 1 }
     ensures subcodes { (CONNECTION_NOT_SYNCHRONIZED ≡ 1) × (BAD_MESSAGE_LENGTH ≡ 2)
         × (BAD_MESSAGE_TYPE ≡ 3) }
     ensures types { (OPEN ≡ 1) × (UPDATE ≡ 2) × (NOTIFICATION ≡ 3) × (KEEPALIVE ≡ 4) }
+    ensures header { HEADER_OCTETS ≡ 19 }
 {}
 
 /// Each stream is whole messages, a rest and an end in one way and no other (RFC 4271, section 4.1).

@@ -10,9 +10,9 @@ mod kinds;
 mod laws;
 
 pub use framer::Framer;
-pub use header::{BAD_MESSAGE_LENGTH, BAD_MESSAGE_TYPE, CONNECTION_NOT_SYNCHRONIZED};
+pub use header::{
+    BAD_MESSAGE_LENGTH, BAD_MESSAGE_TYPE, CONNECTION_NOT_SYNCHRONIZED, HEADER_OCTETS,
+    MESSAGE_HEADER_ERROR,
+};
 pub use kinds::{FrameState, MsgKind};
 pub use laws::{assigned_numbers, header_decides, one_framing};
-
-#[cfg(test)]
-mod tests;

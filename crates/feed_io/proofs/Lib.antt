@@ -1,4 +1,4 @@
 pub mod Copying
 pub mod Fronts
-pub mod Readings
 pub mod Spellings
+pub mod TraceFeeds

@@ -30,7 +30,8 @@ pub record GivesPart (part : List ℕ) (old new : List Event) : Type 0 where
   pub first : old ≡ octets (part ++ more) ∷ later
   pub rest : new ≡ with_more more later
 
--- a call gave the first event, or a first part of its octets, and took it away; the end comes exactly where none is left
+-- a call gave the first event, or a first part of its octets, and took it away; the end comes exactly where none is
+-- left
 abbrev pub Gives : FeedEvent → List ℕ → List Event → List Event → Type 0
 Gives Up buffer old new = old ≡ up ∷ new
 Gives (Octets n) buffer old new = GivesPart (take n buffer) old new

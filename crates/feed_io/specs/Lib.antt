@@ -1,6 +1,6 @@
 pub mod Events
 pub mod Memory
-pub mod Reading
 pub mod Spelling
 pub mod Stored
+pub mod TraceFeeds
 pub mod Traces

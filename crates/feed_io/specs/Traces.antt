@@ -1,10 +1,11 @@
 -- The trace format: the events of a session one after the other, to the end of the text. Our own choice.
-use Rattle.std.specs.Prelude.{◌≡◌, ℕ, ◌<◌, ◌≤◌, ◌==◌, nat_lt, if◌then◌else◌, List, [], ◌∷◌, length, take, drop, Option, Some, None}
+use Rattle.std.specs.Prelude.{◌≡◌, ℕ, ◌<◌, ◌≤◌, ◌==◌, nat_lt, if◌then◌else◌, List, [], ◌∷◌, length, take, drop, Option}
+use Rattle.std.specs.Prelude.{Some, None}
 use Rattle.byteorder.specs.Endian.{big_number, big_bytes}
 use Rattle.urpf_base.specs.Series.{values_in}
 use Rattle.feed_io.specs.Events.{Event, up, octets, down, elapsed}
-use Rattle.feed_io.specs.declared.trace_head.Said.{Said}
-use Rattle.feed_io.specs.declared.trace_head.Said.TheVariants.{Off, Up, Octets, Down, Elapsed}
+use Rattle.feed_io.specs.declared.trace_head.HeadEvent.{HeadEvent}
+use Rattle.feed_io.specs.declared.trace_head.HeadEvent.TheVariants.{Malformed, Up, Octets, Down, Elapsed}
 use Rattle.feed_io.specs.declared.trace_head.TheConstants.{UP, OCTETS, DOWN, ELAPSED}
 
 -- how many octets stand before those of an event, by the first of them
@@ -21,21 +22,21 @@ abbrev pub IsHead : List ℕ → Type 0
 IsHead held = length held ≤ head_length held
 
 -- an event of octets has at least one
-abbrev pub said_length : ℕ → Said
-said_length count = if count == 0 then Off else Octets count
+abbrev pub octets_event : ℕ → HeadEvent
+octets_event count = if count == 0 then Malformed else Octets count
 
 -- what this first octet says, with its length or its seconds in the octets after it
-abbrev pub said_after : ℕ → List ℕ → Said
-said_after code field =
+abbrev pub coded_event : ℕ → List ℕ → HeadEvent
+coded_event code field =
     if code == UP then Up else
-    if code == OCTETS then said_length (big_number 2 field) else
+    if code == OCTETS then octets_event (big_number 2 field) else
     if code == DOWN then Down else
-    if code == ELAPSED then Elapsed (big_number 4 field) else Off
+    if code == ELAPSED then Elapsed (big_number 4 field) else Malformed
 
 -- what the head says that the text begins with
-abbrev pub said_by : List ℕ → Said
-said_by [] = Off
-said_by (code ∷ field) = said_after code field
+abbrev pub head_event : List ℕ → HeadEvent
+head_event [] = Malformed
+head_event (code ∷ field) = coded_event code field
 
 -- so many octets, or those that are there where the text ends before, and none where it has none
 abbrev pub piece_front : ℕ → List ℕ → Option (Event × List ℕ)
@@ -43,8 +44,8 @@ piece_front count [] = None
 piece_front count (b ∷ text) = Some (octets (take count (b ∷ text)), drop count (b ∷ text))
 
 -- the event of a head, with its octets from the text behind it
-abbrev pub body_front : Said → List ℕ → Option (Event × List ℕ)
-body_front Off text = None
+abbrev pub body_front : HeadEvent → List ℕ → Option (Event × List ℕ)
+body_front Malformed text = None
 body_front Up text = Some (up, text)
 body_front (Octets count) text = piece_front count text
 body_front Down text = Some (down, text)
@@ -52,9 +53,12 @@ body_front (Elapsed seconds) text = Some (elapsed seconds, text)
 
 -- the first event of a trace and the octets behind it; none where it is off the format or empty
 abbrev pub event_front : List ℕ → Option (Event × List ℕ)
-event_front text = if nat_lt (length text) (head_length text) then None else body_front (said_by text) (drop (head_length text) text)
+event_front text =
+    if nat_lt (length text) (head_length text) then None
+    else body_front (head_event text) (drop (head_length text) text)
 
--- the events of a trace up to its end, or to where it is off the format; of a broken octets event the octets that are there
+-- the events of a trace up to its end, or to where it is off the format; of a broken octets event the octets that are
+-- there
 abbrev pub trace_events : List ℕ → List Event
 trace_events text = values_in event_front text
 
@@ -63,6 +67,6 @@ abbrev pub owed_head : ℕ → List ℕ
 owed_head count = if count == 0 then [] else OCTETS ∷ big_bytes 2 count
 
 -- the trace is not at its end, and off the format where it is left
-pub record IsOff (trace : List ℕ) : Type 0 where
+pub record IsMalformed (trace : List ℕ) : Type 0 where
   pub some : 0 < length trace
   pub none : event_front trace ≡ None

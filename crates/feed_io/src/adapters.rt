@@ -1,35 +1,45 @@
 //! A real file as a source, and a real writer as a sink.
 //!
-//! They are opened at the first call and tell nothing of their contents, which no proof knows. A
-//! count of 64 bits goes up at each error.
+//! They are opened at the first call and tell nothing of their contents, which no proof knows. Each
+//! call asks the outside once: an error raises the count of faults by one, and a success leaves it.
 ghost use Rattle.std.specs.Prelude.{◌≡◌, None};
 ghost use Rattle.std.specs.Io.{ReadsAtMost};
 
+use crate::fault_count::FaultCount;
 use std::io::{Read, Write};
+use std::marker::Model;
 use std::rt::Files;
 use std::{fs, io};
 use urpf_base::{Failed, Sink, Source};
 
-/// The file at a path.
+/// The file at a path. Contracts see it as that path and its count of faults.
 #[derive(Drop)]
 pub struct FileSource<'a, R: Files> {
     rt: &'a R,
     path: &'a str,
     file: Option<R::File>,
-    faults: u64,
+    faults: FaultCount,
+}
+
+impl<'a, R: Files> Model for FileSource<'a, R> {
+    ghost use Rattle.feed_io.specs.Memory.{NamedFile};
+
+    ghost Value = { NamedFile };
+
+    ghost view = { λ s. record { path = s.path.now; faults = s.faults } };
 }
 
 impl<'a, R: Files> FileSource<'a, R> {
     /// Nothing is opened yet.
     pub fn new(rt: &'a R, path: &'a str) -> FileSource<'a, R>
-        ensures path { result.path.now ≡ path.now }
+        ensures path { result.path ≡ path.now }
         ensures faults { result.faults ≡ 0 }
     {
         FileSource {
             rt,
             path,
             file: None,
-            faults: 0,
+            faults: FaultCount::new(),
         }
     }
 }
@@ -60,13 +70,8 @@ impl<'a, R: Files> Source for FileSource<'a, R> {
     ghost faults = { λ s. s.faults };
 
     fn read(&mut self, buf: &mut [u8]) -> Result<usize, Failed> {
-        match read_opened(self.rt, self.path, &mut self.file, buf) {
-            Ok(count) => Ok(count),
-            Err(_) => {
-                self.faults = self.faults.saturating_add(1);
-                Err(Failed)
-            }
-        }
+        let answer = read_opened(self.rt, self.path, &mut self.file, buf);
+        self.faults.counted(answer)
     }
 }
 
@@ -74,15 +79,19 @@ impl<'a, R: Files> Source for FileSource<'a, R> {
 #[derive(Drop)]
 pub struct OutSink<W: Write + Drop> {
     writer: W,
-    faults: u64,
+    faults: FaultCount,
 }
 
 impl<W: Write + Drop> OutSink<W> {
     /// No write has failed yet.
     pub fn new(writer: W) -> OutSink<W>
-        ensures faults { result.faults ≡ 0 }
+        ensures held { ⟦<OutSink<W> as Sink>⟧.held result ≡ W.contents writer }
+        ensures faults { ⟦<OutSink<W> as Sink>⟧.faults result ≡ 0 }
     {
-        OutSink { writer, faults: 0 }
+        OutSink {
+            writer,
+            faults: FaultCount::new(),
+        }
     }
 }
 
@@ -93,12 +102,11 @@ impl<W: Write + Drop> Sink for OutSink<W> {
 
     /// A write of a piece that takes nothing counts as a fault, as an error does.
     fn write(&mut self, piece: &[u8]) -> Result<usize, Failed> {
-        match self.writer.write(piece) {
-            Ok(count) if count > 0 || piece.is_empty() => Ok(count),
-            _ => {
-                self.faults = self.faults.saturating_add(1);
-                Err(Failed)
-            }
+        let answer = self.writer.write(piece);
+        match self.faults.counted(answer) {
+            Ok(count) if count == 0 && !piece.is_empty() => Err(self.faults.fail()),
+            Ok(count) => Ok(count),
+            Err(Failed) => Err(Failed),
         }
     }
 }

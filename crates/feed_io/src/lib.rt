@@ -3,6 +3,7 @@
 #![tactic(auto)]
 
 mod adapters;
+mod fault_count;
 mod feeds;
 mod laws;
 mod limited;
@@ -18,6 +19,3 @@ pub use laws::{assigned_numbers, one_trace};
 pub use memory::{MemSink, MemSource, SureSink, SureSource};
 pub use memory_feeds::{MemFeed, SureFeed};
 pub use traces::TraceFeed;
-
-#[cfg(test)]
-mod tests;

@@ -33,6 +33,8 @@ impl<S: Source + Drop> Limited<S> {
         ensures bound { ReadsAtMost result buf.new }
         ensures octets { ReadConsumes (S.left self.old.source) (S.left self.new.source) result buf.new }
         ensures later { S.faults self.old.source ≤ S.faults self.new.source }
+        ensures once { S.faults self.new.source ≤ S.faults self.old.source + 1 }
+        ensures same { OnOk result (S.faults self.new.source ≡ S.faults self.old.source) }
         ensures taken { IfOk result (λ n. self.new.taken ≡ self.old.taken + n) }
         ensures within { OnOk result (self.new.taken ≤ limit.TRACE_OCTETS) }
         ensures more { OnOk result (self.old.taken < limit.TRACE_OCTETS) }

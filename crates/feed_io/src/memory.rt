@@ -2,11 +2,12 @@
 //!
 //! They tell what they have left and what they hold. `MemSource` and `MemSink` fail at the calls of
 //! a list, `SureSource` and `SureSink` never.
-ghost use Rattle.std.specs.Prelude.{◌≡◌, ◌⊎◌, ◌-◌, ◌<◌, ◌↔◌, [], length, vec_capacity, drop, take, min, Contains, IsErr, IfOk, IsOkAnd, OnErr, OnOk, Some, None};
+ghost use Rattle.std.specs.Prelude.{◌≡◌, ◌⊎◌, ◌-◌, ◌<◌, ◌↔◌, [], length, vec_capacity, drop, take, min, Contains};
+ghost use Rattle.std.specs.Prelude.{IsErr, IfOk, IsOkAnd, Some, None};
 ghost use Rattle.std.specs.Io.{ReadsAtMost, WritesAtMost};
 ghost use Rattle.std.specs.Io.KnownBytes.{ReadConsumes, WriteAppends};
 ghost use Rattle.urpf_base.specs.Faults.{HasCause};
-ghost use Rattle.feed_io.specs.Memory.{counted_up};
+ghost use Rattle.feed_io.specs.Memory.{no_calls, CountsCall};
 
 use crate::schedule::Schedule;
 use std::marker::Model;
@@ -76,9 +77,7 @@ impl MemSource {
     /// A source of these octets. `fails` holds the numbers of the calls that fail, from 1.
     pub fn new(octets: Vec<u8>, fails: Vec<u64>) -> MemSource
         ensures octets { result.left ≡ octets.items }
-        ensures fails { result.schedule.fails ≡ fails.items }
-        ensures calls { result.schedule.calls ≡ 0 }
-        ensures faults { result.schedule.faults ≡ 0 }
+        ensures schedule { result.schedule ≡ no_calls fails.items }
     {
         MemSource {
             octets: SureSource::new(octets),
@@ -99,15 +98,9 @@ impl Source for MemSource {
         ensures cause { HasCause self.old.schedule.faults self.new.schedule.faults result }
         ensures whole { IfOk result (λ n. n ≡ min (length buf.new) (length self.old.left)) }
         ensures listed { IsErr result ↔ Contains self.old.schedule.fails self.new.schedule.calls }
-        ensures calls { self.new.schedule.calls ≡ counted_up self.old.schedule.calls }
-        ensures fails { self.new.schedule.fails ≡ self.old.schedule.fails }
-        ensures ok { OnOk result (self.new.schedule.faults ≡ self.old.schedule.faults) }
-        ensures err { OnErr result (self.new.schedule.faults ≡ counted_up self.old.schedule.faults) }
+        ensures counts { CountsCall self.old.schedule self.new.schedule result }
     {
-        if self.schedule.call() {
-            self.schedule.fail();
-            return Err(Failed);
-        }
+        self.schedule.call()?;
         self.octets.read(buf)
     }
 }
@@ -139,9 +132,7 @@ impl MemSink {
         requires { room.items ≡ [] }
         ensures held { result.held ≡ [] }
         ensures room { result.room ≡ vec_capacity room }
-        ensures fails { result.schedule.fails ≡ fails.items }
-        ensures calls { result.schedule.calls ≡ 0 }
-        ensures faults { result.schedule.faults ≡ 0 }
+        ensures schedule { result.schedule ≡ no_calls fails.items }
     {
         let capacity = room.capacity();
         MemSink {
@@ -172,17 +163,13 @@ impl Sink for MemSink {
         ensures whole { IfOk result (λ n. n ≡ min (length piece.now) (self.old.room - length self.old.held)) }
         ensures refused { IsErr result ↔ (Contains self.old.schedule.fails self.new.schedule.calls
             ⊎ (self.old.room ≡ length self.old.held)) }
-        ensures calls { self.new.schedule.calls ≡ counted_up self.old.schedule.calls }
-        ensures fails { self.new.schedule.fails ≡ self.old.schedule.fails }
+        ensures counts { CountsCall self.old.schedule self.new.schedule result }
         ensures room { self.new.room ≡ self.old.room }
-        ensures ok { OnOk result (self.new.schedule.faults ≡ self.old.schedule.faults) }
-        ensures err { OnErr result (self.new.schedule.faults ≡ counted_up self.old.schedule.faults) }
     {
-        let listed = self.schedule.call();
+        self.schedule.call()?;
         let count = piece.len().min(self.room - self.taken.len());
-        if listed || self.taken.len() == self.room {
-            self.schedule.fail();
-            return Err(Failed);
+        if self.taken.len() == self.room {
+            return Err(self.schedule.fail());
         }
         match self.taken.extend_from_slice(&piece[..count]) {
             Ok(()) => Ok(count),

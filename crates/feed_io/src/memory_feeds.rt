@@ -6,7 +6,7 @@ ghost use Rattle.std.specs.Prelude.{◌≡◌, ◌<◌, ◌↔◌, [], ◌∷◌
 ghost use Rattle.urpf_base.specs.Faults.{HasCause};
 ghost use Rattle.feed_io.specs.Events as events;
 ghost use Rattle.feed_io.specs.Events.{GivesAtMost, GivesNext, IsPiece};
-ghost use Rattle.feed_io.specs.Memory.{counted_up};
+ghost use Rattle.feed_io.specs.Memory.{no_calls, CountsCall};
 ghost use Rattle.feed_io.specs.Stored.{event_of, IsEntry};
 
 use crate::feeds::{Feed, FeedEvent};
@@ -160,9 +160,7 @@ impl MemFeed {
     /// from 1.
     pub fn new(alloc: Global, fails: Vec<u64>) -> MemFeed
         ensures events { result.left ≡ [] }
-        ensures fails { result.schedule.fails ≡ fails.items }
-        ensures calls { result.schedule.calls ≡ 0 }
-        ensures faults { result.schedule.faults ≡ 0 }
+        ensures schedule { result.schedule ≡ no_calls fails.items }
     {
         MemFeed {
             events: SureFeed::new(alloc),
@@ -219,15 +217,9 @@ impl Feed for MemFeed {
         ensures events { GivesNext (Some self.old.left) (Some self.new.left) result buf.new }
         ensures cause { HasCause self.old.schedule.faults self.new.schedule.faults result }
         ensures listed { IsErr result ↔ Contains self.old.schedule.fails self.new.schedule.calls }
-        ensures calls { self.new.schedule.calls ≡ counted_up self.old.schedule.calls }
-        ensures fails { self.new.schedule.fails ≡ self.old.schedule.fails }
-        ensures ok { OnOk result (self.new.schedule.faults ≡ self.old.schedule.faults) }
-        ensures err { OnErr result (self.new.schedule.faults ≡ counted_up self.old.schedule.faults) }
+        ensures counts { CountsCall self.old.schedule self.new.schedule result }
     {
-        if self.schedule.call() {
-            self.schedule.fail();
-            return Err(Failed);
-        }
+        self.schedule.call()?;
         self.events.next(buf)
     }
 }

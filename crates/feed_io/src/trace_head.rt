@@ -32,9 +32,9 @@ pub const HEAD_OCTETS: usize = 5;
 
 /// What a whole head says.
 #[derive(Clone, Copy, Debug, PartialEq, Eq)]
-pub enum Said {
+pub enum HeadEvent {
     /// The first octet is none of the four, or the length is 0.
-    Off,
+    Malformed,
     /// The transport comes up.
     Up,
     /// So many octets follow.
@@ -148,42 +148,42 @@ fn code_length(code: u8) -> usize
 }
 
 /// What a whole head says.
-pub fn read_head(octets: &[u8]) -> Said
+pub fn read_head(octets: &[u8]) -> HeadEvent
     requires { length octets.now ≡ spec.head_length octets.now }
-    ensures { result ≡ spec.said_by octets.now }
+    ensures { result ≡ spec.head_event octets.now }
 {
     let [code, field @ ..] = octets else {
-        return Said::Off;
+        return HeadEvent::Malformed;
     };
-    said_after(*code, field)
+    coded_event(*code, field)
 }
 
 /// What a head says by its first octet and those after it.
-fn said_after(code: u8, field: &[u8]) -> Said
+fn coded_event(code: u8, field: &[u8]) -> HeadEvent
     requires { length field.now + 1 ≡ spec.code_length code }
-    ensures { result ≡ spec.said_after code field.now }
+    ensures { result ≡ spec.coded_event code field.now }
 {
     if code == UP {
-        return Said::Up;
+        return HeadEvent::Up;
     }
     if code == OCTETS {
-        return said_length(BigEndian::read_u16(field));
+        return octets_event(BigEndian::read_u16(field));
     }
     if code == DOWN {
-        return Said::Down;
+        return HeadEvent::Down;
     }
     if code == ELAPSED {
-        return Said::Elapsed(BigEndian::read_u32(field));
+        return HeadEvent::Elapsed(BigEndian::read_u32(field));
     }
-    Said::Off
+    HeadEvent::Malformed
 }
 
 /// So many octets follow, at least 1.
-fn said_length(count: u16) -> Said
-    ensures { result ≡ spec.said_length count }
+fn octets_event(count: u16) -> HeadEvent
+    ensures { result ≡ spec.octets_event count }
 {
     if count == 0 {
-        return Said::Off;
+        return HeadEvent::Malformed;
     }
-    Said::Octets(count)
+    HeadEvent::Octets(count)
 }

@@ -1,5 +1,6 @@
 -- The two forms of an IPv6 address in text: eight groups, or fewer and a gap.
-use Rattle.std.proofs.Common.{◌≡◌, ℕ, ◌+◌, ◌-◌, ◌*◌, ◌^◌, ◌≤◌, ◌⊎◌, inl, inr, List, [], ◌∷◌, ◌++◌, length, drop, replicate, Option, Some, None, refl, ap, sym, subst, ◌∙◌, length-append, arith}
+use Rattle.std.proofs.Common.{◌≡◌, ℕ, ◌+◌, ◌-◌, ◌*◌, ◌^◌, ◌≤◌, ◌⊎◌, inl, inr, List, [], ◌∷◌, ◌++◌, length, drop}
+use Rattle.std.proofs.Common.{replicate, Option, Some, None, refl, ap, sym, subst, ◌∙◌, length-append, arith}
 use Rattle.std.specs.Option.{IfSome, SomeIff}
 use Rattle.std.specs.Int.Digits.{number_from_digits_after}
 use Rattle.std.proofs.lemmas.List.{append-nil, length-replicate}
@@ -21,26 +22,37 @@ record Short (text : List ℕ) (n : ℕ) : Type 0 where
   right : List ℕ
   after : List ℕ
   fewer : length left + length right ≤ 7
-  number : n ≡ number_from_digits_after 65536 0 left * 2 ^ (16 * (8 - length left)) + number_from_digits_after 65536 0 right
+  number : n ≡ number_from_digits_after 65536 0 left * 2 ^ (16 * (8 - length left))
+      + number_from_digits_after 65536 0 right
   first : Opens text left (58 ∷ 58 ∷ after)
   last : Opens after right []
 
 opens_all : (text groups : List ℕ) → IsGroups text groups → Opens text groups []
 opens_all text groups is = record { front = text; spelled = is; parts = sym (append-nil text); stops = tt }
 
-length-with_zeros : (left right : List ℕ) (zeros : ℕ) → length (left ++ (replicate zeros 0 ++ right)) ≡ length left + (zeros + length right)
+length-with_zeros : (left right : List ℕ) (zeros : ℕ)
+    → length (left ++ (replicate zeros 0 ++ right)) ≡ length left + (zeros + length right)
 length-with_zeros left right zeros =
-    omega (arith, length-append left (replicate zeros 0 ++ right), length-append (replicate zeros 0) right, length-replicate {A = ℕ} zeros 0)
+    omega (
+      arith,
+      length-append left (replicate zeros 0 ++ right),
+      length-append (replicate zeros 0) right,
+      length-replicate {A = ℕ} zeros 0,
+    )
 
-short_of : (text groups : List ℕ) (n : ℕ) → length groups ≡ 8 → n ≡ number_from_digits_after 65536 0 groups → IsShortened text groups → Short text n
+short_of : (text groups : List ℕ) (n : ℕ) → length groups ≡ 8 → n ≡ number_from_digits_after 65536 0 groups
+    → IsShortened text groups → Short text n
 short_of text groups n eight number s =
-    let all : length s.left + (s.zeros + length s.right) ≡ 8 = sym (length-with_zeros s.left s.right s.zeros) ∙ ap length (sym s.whole) ∙ eight in
+    let all : length s.left + (s.zeros + length s.right) ≡ 8 = sym (length-with_zeros s.left s.right s.zeros)
+    ∙ ap length (sym s.whole) ∙ eight in
     record {
       left = s.left;
       right = s.right;
       after = s.after;
       fewer = omega (arith, all, s.some);
-      number = number ∙ ap (λ gs. number_from_digits_after 65536 0 gs) s.whole ∙ number-with_zeros s.left s.right s.zeros all;
+      number =
+          number ∙ ap (λ gs. number_from_digits_after 65536 0 gs) s.whole
+          ∙ number-with_zeros s.left s.right s.zeros all;
       first = record { front = s.before; spelled = s.first; parts = s.parts; stops = (refl, refl) };
       last = opens_all s.after s.right s.last;
     }
@@ -48,7 +60,8 @@ short_of text groups n eight number s =
 forms : (text : List ℕ) (n : ℕ) → IsV6 text n → Plain text n ⊎ Short text n
 forms text n is =
     elim is.spelled [
-      | inl all ↦ inl (record { groups = is.groups; eight = is.eight; number = is.number; opens = opens_all text is.groups all })
+      | inl all ↦ inl
+          (record { groups = is.groups; eight = is.eight; number = is.number; opens = opens_all text is.groups all })
       | inr short ↦ inr (short_of text is.groups n is.eight is.number short)
     ]
 
@@ -57,16 +70,20 @@ is_some None P v read p = absurd (read p)
 is_some (Some x) P v read p = ap Some read.1
 
 -- nothing opens the text
-pub never_read : (text : List ℕ) → ((groups rest : List ℕ) → length groups ≤ 8 → Opens text groups rest → ⊥) → (n : ℕ) → IsV6 text n → None ≡ Some n
+pub never_read : (text : List ℕ) → ((groups rest : List ℕ) → length groups ≤ 8 → Opens text groups rest → ⊥) → (n : ℕ)
+    → IsV6 text n → None ≡ Some n
 never_read text never n is =
     elim (forms text n is) [
       | inl f ↦ absurd (never f.groups [] (omega (arith, f.eight)) f.opens)
       | inr f ↦ absurd (never f.left (58 ∷ 58 ∷ f.after) (omega (arith, f.fewer)) f.first)
     ]
 
-module _ (text : List ℕ) (count value : ℕ) (left : List ℕ) (only : (groups rest : List ℕ) → length groups ≤ 8 → Opens text groups rest → SideIs 0 0 groups count value rest left) where
+module _ (text : List ℕ) (count value : ℕ) (left : List ℕ)
+    (only : (groups rest : List ℕ) → length groups ≤ 8 → Opens text groups rest
+    → SideIs 0 0 groups count value rest left) where
   -- no gap follows
-  pub whole_only : (r : Option ℕ) → ((after : List ℕ) → left ≡ 58 ∷ 58 ∷ after → ⊥) → SomeIff r ((count ≡ 8) × (left ≡ [])) value → (n : ℕ) → IsV6 text n → r ≡ Some n
+  pub whole_only : (r : Option ℕ) → ((after : List ℕ) → left ≡ 58 ∷ 58 ∷ after → ⊥)
+      → SomeIff r ((count ≡ 8) × (left ≡ [])) value → (n : ℕ) → IsV6 text n → r ≡ Some n
   whole_only r no_gap read n is =
       elim (forms text n is) [
         | inl f ↦
@@ -83,16 +100,22 @@ module _ (text : List ℕ) (count value : ℕ) (left : List ℕ) (only : (groups
 
     right_opens : (n : ℕ) (f : Short text n) → Opens after f.right []
     right_opens n f =
-        subst (λ (t : List ℕ). Opens t f.right []) (ap (drop 2) (sym (only f.left (58 ∷ 58 ∷ f.after) (omega (arith, f.fewer)) f.first).2 ∙ gap)) f.last
+        subst (λ (t : List ℕ). Opens t f.right [])
+        (ap (drop 2) (sym (only f.left (58 ∷ 58 ∷ f.after) (omega (arith, f.fewer)) f.first).2 ∙ gap)) f.last
 
-    pub right_never : ((groups rest : List ℕ) → length groups ≤ 8 → Opens after groups rest → ⊥) → (n : ℕ) → IsV6 text n → None ≡ Some n
+    pub right_never : ((groups rest : List ℕ) → length groups ≤ 8 → Opens after groups rest → ⊥) → (n : ℕ) → IsV6 text n
+        → None ≡ Some n
     right_never never n is =
         elim (forms text n is) [
           | inl f ↦ absurd (plain_never n f)
           | inr f ↦ absurd (never f.right [] (omega (arith, f.fewer)) (right_opens n f))
         ]
 
-    pub joined_only : (others low : ℕ) (right : List ℕ) (r : Option ℕ) → ((groups rest : List ℕ) → length groups ≤ 8 → Opens after groups rest → SideIs 0 0 groups others low rest right) → SomeIff r ((count + others ≤ 7) × (right ≡ [])) (value * 2 ^ (16 * (8 - count)) + low) → (n : ℕ) → IsV6 text n → r ≡ Some n
+    pub joined_only : (others low : ℕ) (right : List ℕ) (r : Option ℕ)
+        → ((groups rest : List ℕ) → length groups ≤ 8 → Opens after groups rest
+        → SideIs 0 0 groups others low rest right)
+        → SomeIff r ((count + others ≤ 7) × (right ≡ [])) (value * 2 ^ (16 * (8 - count)) + low)
+        → (n : ℕ) → IsV6 text n → r ≡ Some n
     joined_only others low right r only_right read n is =
         elim (forms text n is) [
           | inl f ↦ absurd (plain_never n f)
@@ -101,25 +124,34 @@ module _ (text : List ℕ) (count value : ℕ) (left : List ℕ) (only : (groups
               let last = only_right f.right [] (omega (arith, f.fewer)) (right_opens n f) in
               let counted : count ≡ length f.left = omega (arith, high.0) in
               is_some r _ _ read (omega (arith, high.0, last.0, f.fewer), last.2)
-              ∙ ap Some (ap (λ x. value * 2 ^ (16 * (8 - x)) + low) counted ∙ ap (λ x. x * 2 ^ (16 * (8 - length f.left)) + low) high.1 ∙ ap (λ x. number_from_digits_after 65536 0 f.left * 2 ^ (16 * (8 - length f.left)) + x) last.1 ∙ sym f.number)
+              ∙ ap Some
+              (ap (λ x. value * 2 ^ (16 * (8 - x)) + low) counted
+              ∙ ap (λ x. x * 2 ^ (16 * (8 - length f.left)) + low) high.1
+              ∙ ap (λ x. number_from_digits_after 65536 0 f.left * 2 ^ (16 * (8 - length f.left)) + x)
+              last.1 ∙ sym f.number)
         ]
 
 all_of : (text groups rest : List ℕ) → Opens text groups rest → rest ≡ [] → IsGroups text groups
 all_of text groups rest opens none =
-    subst (λ (t : List ℕ). IsGroups t groups) (sym (opens.parts ∙ ap (λ r. opens.front ++ r) none ∙ append-nil opens.front)) opens.spelled
+    subst (λ (t : List ℕ). IsGroups t groups)
+    (sym (opens.parts ∙ ap (λ r. opens.front ++ r) none ∙ append-nil opens.front)) opens.spelled
 
 -- both sides were read
-pub joined_found : (text after left right : List ℕ) (count value others low : ℕ) (r : Option ℕ) → IsSide 0 0 text count value left → left ≡ 58 ∷ 58 ∷ after → IsSide 0 0 after others low right → SomeIff r ((count + others ≤ 7) × (right ≡ [])) (value * 2 ^ (16 * (8 - count)) + low) → IfSome r (IsV6 text)
+pub joined_found : (text after left right : List ℕ) (count value others low : ℕ) (r : Option ℕ)
+    → IsSide 0 0 text count value left → left ≡ 58 ∷ 58 ∷ after → IsSide 0 0 after others low right
+    → SomeIff r ((count + others ≤ 7) × (right ≡ [])) (value * 2 ^ (16 * (8 - count)) + low) → IfSome r (IsV6 text)
 joined_found text after left right count value others low None high gap last read = tt
 joined_found text after left right count value others low (Some n) high gap last read =
     let zeros : ℕ = 8 - count - others in
     let counted : count ≡ length high.groups = omega (arith, high.counted) in
-    let all : length high.groups + (zeros + length last.groups) ≡ 8 = omega (arith, high.counted, last.counted, read.0.0) in
+    let all : length high.groups + (zeros + length last.groups) ≡ 8 =
+    omega (arith, high.counted, last.counted, read.0.0) in
     record {
       groups = high.groups ++ (replicate zeros 0 ++ last.groups);
       eight = length-with_zeros high.groups last.groups zeros ∙ all;
       number =
-          read.1 ∙ ap (λ x. value * 2 ^ (16 * (8 - x)) + low) counted ∙ ap (λ x. x * 2 ^ (16 * (8 - length high.groups)) + low) high.number
+          read.1 ∙ ap (λ x. value * 2 ^ (16 * (8 - x)) + low) counted
+          ∙ ap (λ x. x * 2 ^ (16 * (8 - length high.groups)) + low) high.number
           ∙ ap (λ x. number_from_digits_after 65536 0 high.groups * 2 ^ (16 * (8 - length high.groups)) + x) last.number
           ∙ sym (number-with_zeros high.groups last.groups zeros all);
       spelled = inr (record {

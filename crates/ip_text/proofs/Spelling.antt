@@ -1,5 +1,6 @@
 -- The groups of an IPv6 address in text.
-use Rattle.std.proofs.Common.{◌≡◌, ℕ, ◌<◌, ◌≤◌, ◌⊎◌, inl, inr, List, [], ◌∷◌, ◌++◌, length, get_or, refl, ap, sym, subst, ◌∙◌, append_assoc, arith}
+use Rattle.std.proofs.Common.{◌≡◌, ℕ, ◌<◌, ◌≤◌, ◌⊎◌, inl, inr, List, [], ◌∷◌, ◌++◌, length, get_or, refl, ap, sym}
+use Rattle.std.proofs.Common.{subst, ◌∙◌, append_assoc, arith}
 use Rattle.std.proofs.lemmas.List.{append-nil}
 use Rattle.std.specs.Char.{digit_value}
 use Rattle.std.specs.Str.Iter.{LacksByte}
@@ -39,14 +40,18 @@ group_starts [] g is = absurd (omega (arith, is.some))
 group_starts (c ∷ cs) g is = record { first = c; others = cs; digit = is.digits.0; parts = refl }
 
 starts-append : (one more : List ℕ) → StartsWithDigit one → StartsWithDigit (one ++ more)
-starts-append one more s = record { first = s.first; others = s.others ++ more; digit = s.digit; parts = ap (λ t. t ++ more) s.parts }
+starts-append one more s =
+    record { first = s.first; others = s.others ++ more; digit = s.digit; parts = ap (λ t. t ++ more) s.parts }
 
 pub groups_start : (text : List ℕ) (g : ℕ) (gs : List ℕ) → IsGroups text (g ∷ gs) → StartsWithDigit text
 groups_start text g [] is = group_starts text g is
-groups_start text g (h ∷ gs) is = subst StartsWithDigit (sym is.3) (starts-append is.0 (58 ∷ is.1) (group_starts is.0 g is.2))
+groups_start text g (h ∷ gs) is =
+    subst StartsWithDigit (sym is.3) (starts-append is.0 (58 ∷ is.1) (group_starts is.0 g is.2))
 
 pub opens_start : (text : List ℕ) (g : ℕ) (gs rest : List ℕ) → Opens text (g ∷ gs) rest → StartsWithDigit text
-opens_start text g gs rest opens = subst StartsWithDigit (sym opens.parts) (starts-append opens.front rest (groups_start opens.front g gs opens.spelled))
+opens_start text g gs rest opens =
+    subst StartsWithDigit (sym opens.parts)
+    (starts-append opens.front rest (groups_start opens.front g gs opens.spelled))
 
 pub no_colon_first : (text more : List ℕ) → StartsWithDigit text → text ≡ 58 ∷ more → ⊥
 no_colon_first text more s is = no_colon s.first (ap (λ t. get_or t 0 0) (sym s.parts ∙ is)) s.digit
@@ -64,17 +69,22 @@ gap_is (a ∷ b ∷ cs) ends = inr (cs, ap (λ x. x ∷ b ∷ cs) ends.0 ∙ ap 
 -- the three ways in which a text with a group in front goes on
 pub data Start (text rest : List ℕ) : List ℕ → Type 0 where
   ended : (g : ℕ) → IsGroup text g → rest ≡ [] → Start text rest (g ∷ [])
-  gap : (g : ℕ) (front after : List ℕ) → IsGroup front g → text ≡ front ++ (58 ∷ 58 ∷ after) → rest ≡ 58 ∷ 58 ∷ after → Start text rest (g ∷ [])
-  goes_on : (g h : ℕ) (gs one others : List ℕ) → IsGroup one g → text ≡ one ++ (58 ∷ others) → Opens others (h ∷ gs) rest → Start text rest (g ∷ h ∷ gs)
+  gap : (g : ℕ) (front after : List ℕ) → IsGroup front g → text ≡ front ++ (58 ∷ 58 ∷ after) → rest ≡ 58 ∷ 58 ∷ after
+      → Start text rest (g ∷ [])
+  goes_on : (g h : ℕ) (gs one others : List ℕ) → IsGroup one g → text ≡ one ++ (58 ∷ others)
+      → Opens others (h ∷ gs) rest → Start text rest (g ∷ h ∷ gs)
 
 pub start_of : (text rest groups : List ℕ) → 0 < length groups → Opens text groups rest → Start text rest groups
 start_of text rest [] some opens = absurd (omega arith)
 start_of text rest (g ∷ []) some opens =
     elim (gap_is rest opens.stops) [
-      | inl e ↦ ended g (subst (λ (t : List ℕ). IsGroup t g) (sym (opens.parts ∙ ap (λ r. opens.front ++ r) e ∙ append-nil opens.front)) opens.spelled) e
+      | inl e ↦ ended g
+          (subst (λ (t : List ℕ). IsGroup t g)
+          (sym (opens.parts ∙ ap (λ r. opens.front ++ r) e ∙ append-nil opens.front)) opens.spelled) e
       | inr e ↦ gap g opens.front e.0 opens.spelled (opens.parts ∙ ap (λ r. opens.front ++ r) e.1) e.1
     ]
 start_of text rest (g ∷ h ∷ gs) some opens =
     let is = opens.spelled in
-    goes_on g h gs is.0 (is.1 ++ rest) is.2 (opens.parts ∙ ap (λ t. t ++ rest) is.3 ∙ append_assoc is.0 (58 ∷ is.1) rest)
+    goes_on g h gs is.0 (is.1 ++ rest) is.2
+    (opens.parts ∙ ap (λ t. t ++ rest) is.3 ∙ append_assoc is.0 (58 ∷ is.1) rest)
     (record { front = is.1; spelled = is.4; parts = refl; stops = opens.stops })

@@ -1,4 +1,5 @@
--- What the steps of reading an IPv6 address come to: groups up to the end of the text or up to a gap. Our own choice of steps.
+-- What the steps of reading an IPv6 address come to: groups up to the end of the text or up to a gap. Our own choice of
+-- steps.
 use Rattle.std.specs.Prelude.{◌≡◌, ℕ, ◌+◌, ◌^◌, List, [], ◌∷◌, ◌++◌, length}
 use Rattle.std.specs.Int.Digits.{number_from_digits_after}
 use Rattle.ip_text.specs.Groups.{IsGroups}

@@ -8,7 +8,8 @@ use Rattle.ip_text.specs.Groups.{IsGroups, IsShortened}
 use Rattle.urpf_base.specs.declared.address.Addr.{Addr}
 use Rattle.urpf_base.specs.declared.address.Addr.TheVariants.{V4, V6}
 
--- four decimal numbers without leading zeros, parted by dots, the highest octet first (RFC 6943, section 3.1.1, the strict form)
+-- four decimal numbers without leading zeros, parted by dots, the highest octet first (RFC 6943, section 3.1.1, the
+-- strict form)
 abbrev pub dotted : ℕ → List ℕ
 dotted n = join_with_byte 46 (map decimal (to_be_bytes w32 n))
 
@@ -18,11 +19,14 @@ group_at place n = n / 2 ^ (16 * place) % 2 ^ 16
 
 -- the eight groups of an IPv6 address, the highest first (RFC 4291, section 2.2)
 abbrev pub groups_of : ℕ → List ℕ
-groups_of n = group_at 7 n ∷ group_at 6 n ∷ group_at 5 n ∷ group_at 4 n ∷ group_at 3 n ∷ group_at 2 n ∷ group_at 1 n ∷ group_at 0 n ∷ []
+groups_of n =
+    group_at 7 n ∷ group_at 6 n ∷ group_at 5 n ∷ group_at 4 n ∷ group_at 3 n ∷ group_at 2 n ∷ group_at 1 n
+    ∷ group_at 0 n ∷ []
 
 -- a group as four lower-case hexadecimal digits, zeros and all. Our own choice: RFC 5952 would leave zeros out
 abbrev pub four_digits : ℕ → List ℕ
-four_digits g = digit_char (g / 2 ^ 12) ∷ digit_char (g / 2 ^ 8 % 16) ∷ digit_char (g / 2 ^ 4 % 16) ∷ digit_char (g % 16) ∷ []
+four_digits g =
+    digit_char (g / 2 ^ 12) ∷ digit_char (g / 2 ^ 8 % 16) ∷ digit_char (g / 2 ^ 4 % 16) ∷ digit_char (g % 16) ∷ []
 
 -- groups of four digits, parted by colons
 abbrev pub grouped : List ℕ → List ℕ

@@ -13,6 +13,3 @@ pub use numbers::read_number;
 pub use prefixes::{read_asn, read_prefix};
 pub use printing::{put_addr, put_number};
 pub use reading::read_addr;
-
-#[cfg(test)]
-mod tests;

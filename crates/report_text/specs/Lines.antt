@@ -1,4 +1,5 @@
--- The lines of output. All of them are our own choice: fields parted by one space, numbers in decimal, a line feed at the end.
+-- The lines of output. All of them are our own choice: fields parted by one space, numbers in decimal, a line feed at
+-- the end.
 use Rattle.std.specs.Prelude.{ℕ, Bool, if◌then◌else◌, List, ◌∷◌, ◌++◌, map, codes, decimal}
 use Rattle.std.specs.List.{concat}
 use Rattle.urpf_base.specs.declared.address.Addr.{Addr}
@@ -11,7 +12,8 @@ use Rattle.ip_text.specs.Texts.{addr_text}
 -- what a run stands on: its interfaces and sessions, the distinct pairs, and the records that were skipped
 abbrev pub run_line : ℕ → ℕ → ℕ → ℕ → List ℕ
 run_line interfaces sessions pairs skipped =
-    codes "run interfaces " ++ decimal interfaces ++ codes " sessions " ++ decimal sessions ++ codes " pairs " ++ decimal pairs ++ codes " skipped " ++ decimal skipped ++ codes "\n"
+    codes "run interfaces " ++ decimal interfaces ++ codes " sessions " ++ decimal sessions ++ codes " pairs "
+    ++ decimal pairs ++ codes " skipped " ++ decimal skipped ++ codes "\n"
 
 -- each number after a space
 abbrev pub spaced : List ℕ → List ℕ
@@ -20,13 +22,16 @@ spaced numbers = concat (map (λ n. 32 ∷ decimal n) numbers)
 -- a publication: its number, its edits and cells, and how many items each session has given so far
 abbrev pub publish_line : ℕ → ℕ → ℕ → List ℕ → List ℕ
 publish_line number edits cells items =
-    codes "publish " ++ decimal number ++ codes " edits " ++ decimal edits ++ codes " cells " ++ decimal cells ++ codes " items" ++ spaced items ++ codes "\n"
+    codes "publish " ++ decimal number ++ codes " edits " ++ decimal edits ++ codes " cells " ++ decimal cells
+    ++ codes " items" ++ spaced items ++ codes "\n"
 
 -- the end of a session: its number, its items, and the octets after its last whole message
 abbrev pub end_line : ℕ → ℕ → ℕ → List ℕ
-end_line session items rest = codes "end " ++ decimal session ++ codes " items " ++ decimal items ++ codes " rest " ++ decimal rest ++ codes "\n"
+end_line session items rest =
+    codes "end " ++ decimal session ++ codes " items " ++ decimal items ++ codes " rest " ++ decimal rest ++ codes "\n"
 
--- what a cause of a reset is called: by this side's fault or the peer's NOTIFICATION, each with its code and subcode, or by the transport
+-- what a cause of a reset is called: by this side's fault or the peer's NOTIFICATION, each with its code and subcode,
+-- or by the transport
 abbrev pub cause_text : ResetCause → List ℕ
 cause_text (Fault code sub) = codes "fault " ++ decimal code ++ codes " " ++ decimal sub
 cause_text (Notified code sub) = codes "notified " ++ decimal code ++ codes " " ++ decimal sub
@@ -34,11 +39,13 @@ cause_text Closed = codes "closed"
 
 -- the reset of a session: the item it comes at, and its cause
 abbrev pub reset_line : ℕ → ℕ → ResetCause → List ℕ
-reset_line session item cause = codes "reset " ++ decimal session ++ codes " item " ++ decimal item ++ codes " " ++ cause_text cause ++ codes "\n"
+reset_line session item cause =
+    codes "reset " ++ decimal session ++ codes " item " ++ decimal item ++ codes " " ++ cause_text cause ++ codes "\n"
 
 -- the close of a run: the number of its last publication, and how many packets had a line
 abbrev pub done_line : ℕ → ℕ → List ℕ
-done_line publications packets = codes "done publications " ++ decimal publications ++ codes " packets " ++ decimal packets ++ codes "\n"
+done_line publications packets =
+    codes "done publications " ++ decimal publications ++ codes " packets " ++ decimal packets ++ codes "\n"
 
 -- what a verdict is called
 abbrev pub verdict_text : Verdict → List ℕ
@@ -54,9 +61,11 @@ verdict_of pass = if pass then Pass else Drop
 -- the check of one source against one session: its messages, its prefixes, and the octets after its last whole message
 abbrev pub check_one_line : Addr → Bool → ℕ → ℕ → ℕ → List ℕ
 check_one_line addr pass messages prefixes rest =
-    codes "check " ++ addr_text addr ++ codes " " ++ verdict_text (verdict_of pass) ++ codes " messages " ++ decimal messages ++ codes " prefixes " ++ decimal prefixes ++ codes " rest " ++ decimal rest ++ codes "\n"
+    codes "check " ++ addr_text addr ++ codes " " ++ verdict_text (verdict_of pass) ++ codes " messages "
+    ++ decimal messages ++ codes " prefixes " ++ decimal prefixes ++ codes " rest " ++ decimal rest ++ codes "\n"
 
 -- the check of a source on an interface against the publication of this number
 abbrev pub check_line : ℕ → Addr → Verdict → ℕ → List ℕ
 check_line iface addr verdict number =
-    codes "check " ++ decimal iface ++ codes " " ++ addr_text addr ++ codes " " ++ verdict_text verdict ++ codes " " ++ decimal number ++ codes "\n"
+    codes "check " ++ decimal iface ++ codes " " ++ addr_text addr ++ codes " " ++ verdict_text verdict ++ codes " "
+    ++ decimal number ++ codes "\n"

@@ -8,6 +8,3 @@ mod runs;
 
 pub use checks::{put_check, put_one};
 pub use runs::{put_done, put_end, put_mark, put_reset, put_run};
-
-#[cfg(test)]
-mod tests;

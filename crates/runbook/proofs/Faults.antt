@@ -27,5 +27,6 @@ pub same_kind : (line other : ℕ) (kind cause : BookKind) → answer line kind 
 unfolding kind_in
 same_kind line other kind cause is = ap kind_in is
 
-pub same_answer : (line other : ℕ) (kind cause : BookKind) → other ≡ line → kind ≡ cause → answer line kind ≡ answer other cause
+pub same_answer : (line other : ℕ) (kind cause : BookKind) → other ≡ line → kind ≡ cause
+    → answer line kind ≡ answer other cause
 same_answer line other kind cause a b i = answer (sym a i) (b i)

@@ -1,6 +1,7 @@
 //! A runbook, and reading one: the octets of a text come in, and its lines go out, each with its
 //! number, or the first line that is refused.
-ghost use Rattle.std.specs.Prelude.{◌≡◌, ◌⊎◌, ℕ, ◌^◌, ◌<◌, List, [], ◌∷◌, ◌++◌, length, slice_get, IfOk, OnOk, OnErr, Ok, Err, Some};
+ghost use Rattle.std.specs.Prelude.{◌≡◌, ◌⊎◌, ℕ, ◌^◌, ◌<◌, List, [], ◌∷◌, ◌++◌, length, slice_get, IfOk, OnOk, OnErr};
+ghost use Rattle.std.specs.Prelude.{Ok, Err, Some};
 ghost use Rattle.runbook.specs.declared.lines.BookKind.{BookKind};
 ghost use Rattle.runbook.specs.declared.lines.BookLine.{BookLine};
 ghost use Rattle.runbook.specs.Book.{IsBook, IsFirstFault, OpensTaken};

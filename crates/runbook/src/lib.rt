@@ -15,6 +15,3 @@ mod words;
 
 pub use book::{Book, BookFault, ReadBook, read_book};
 pub use lines::{BookKind, BookLine};
-
-#[cfg(test)]
-mod tests;

@@ -9,7 +9,7 @@ use Rattle.bgp_update.specs.Faults.{HasOutcome}
 use Rattle.bgp_update.proofs.OutcomeLaws.{has_outcome, never_both, fault_once}
 use Rattle.bgp_update.proofs.UpdateLaws.{one_update}
 use Rattle.urpf_base.specs.declared.sessions.ResetCause.TheVariants.{Fault}
-use Rattle.session_fsm.specs.declared.codes.TheConstants.{UPDATE_MESSAGE_ERROR}
+use Rattle.bgp_update.specs.declared.subcodes.TheConstants.{UPDATE_MESSAGE_ERROR}
 use Rattle.urpf_base.specs.declared.sessions.SessionConfig.{SessionConfig}
 use Rattle.session_fsm.specs.declared.items.Item.{Item}
 use Rattle.session_fsm.specs.declared.items.Item.TheVariants.{Up, Message, HeaderFault, Down, Elapsed}
@@ -25,11 +25,13 @@ use Rattle.session_fsm.specs.Table.{Outcome, Step, Accepts, Refuses, after_open,
 pub one_answer : (timer : Timer) (peer : Peer) (body : List ℕ) (a b : Outcome)
     → Accepts timer peer body a ⊎ Refuses peer body a → Accepts timer peer body b ⊎ Refuses peer body b → a ≡ b
 one_answer timer peer body a b (inl p) (inl q) =
-    p.2 ∙ ap (λ u. (Established (started timer.limit) peer, Changes u)) (one_update peer.width peer.v6 body p.0 q.0 p.1 q.1) ∙ sym q.2
+    p.2 ∙ ap (λ u. (Established (started timer.limit) peer, Changes u))
+    (one_update peer.width peer.v6 body p.0 q.0 p.1 q.1) ∙ sym q.2
 one_answer timer peer body a b (inl p) (inr q) = absurd (never_both peer.width peer.v6 body p.0 q.0 p.1 q.1)
 one_answer timer peer body a b (inr p) (inl q) = absurd (never_both peer.width peer.v6 body q.0 p.0 q.1 p.1)
 one_answer timer peer body a b (inr p) (inr q) =
-    p.2 ∙ ap (λ sub. ended (Fault UPDATE_MESSAGE_ERROR sub)) (fault_once peer.width peer.v6 body p.0 q.0 p.1 q.1) ∙ sym q.2
+    p.2 ∙ ap (λ sub. ended (Fault UPDATE_MESSAGE_ERROR sub)) (fault_once peer.width peer.v6 body p.0 q.0 p.1 q.1)
+    ∙ sym q.2
 
 -- each state and each item have at most one outcome
 pub one_outcome : (config : SessionConfig) (state : State) (item : Item) (a b : Outcome)
@@ -105,24 +107,31 @@ some_outcome config (Established timer peer) (HeaderFault sub) = (_, refl)
 some_outcome config (Established timer peer) (Message Notification body) = (_, refl)
 some_outcome config (Established timer peer) (Elapsed seconds) = (_, refl)
 some_outcome config (Established timer peer) (Message Open body) = (_, refl)
-some_outcome config (Established timer peer) (Message Update body) = some_answer timer peer body.now (has_outcome peer.width peer.v6 body.now)
+some_outcome config (Established timer peer) (Message Update body) =
+    some_answer timer peer body.now (has_outcome peer.width peer.v6 body.now)
 some_outcome config (Established timer peer) (Message Keepalive body) = (_, refl)
 
 -- the row of a message is that of its body, wherever it stands
-pub same_body : (config : SessionConfig) (state : State) (kind : MsgKind) (a b : Bor (List ℕ)) (outcome : Outcome) → a.now ≡ b.now → Step config state (Message kind a) outcome → Step config state (Message kind b) outcome
+pub same_body : (config : SessionConfig) (state : State) (kind : MsgKind) (a b : Bor (List ℕ)) (outcome : Outcome)
+    → a.now ≡ b.now → Step config state (Message kind a) outcome → Step config state (Message kind b) outcome
 same_body config Idle Open a b outcome same is = is
 same_body config Idle Update a b outcome same is = is
 same_body config Idle Notification a b outcome same is = is
 same_body config Idle Keepalive a b outcome same is = is
-same_body config (OpenSent timer) Open a b outcome same is = subst (λ (t : List ℕ). outcome ≡ after_open config (open_seen t) (open_fault t config.peer_as)) same is
+same_body config (OpenSent timer) Open a b outcome same is =
+    subst (λ (t : List ℕ). outcome ≡ after_open config (open_seen t) (open_fault t config.peer_as)) same is
 same_body config (OpenSent timer) Update a b outcome same is = is
-same_body config (OpenSent timer) Notification a b outcome same is = subst (λ (t : List ℕ). outcome ≡ ended (notice t)) same is
+same_body config (OpenSent timer) Notification a b outcome same is =
+    subst (λ (t : List ℕ). outcome ≡ ended (notice t)) same is
 same_body config (OpenSent timer) Keepalive a b outcome same is = is
 same_body config (OpenConfirm timer peer) Open a b outcome same is = is
 same_body config (OpenConfirm timer peer) Update a b outcome same is = is
-same_body config (OpenConfirm timer peer) Notification a b outcome same is = subst (λ (t : List ℕ). outcome ≡ ended (notice t)) same is
+same_body config (OpenConfirm timer peer) Notification a b outcome same is =
+    subst (λ (t : List ℕ). outcome ≡ ended (notice t)) same is
 same_body config (OpenConfirm timer peer) Keepalive a b outcome same is = is
 same_body config (Established timer peer) Open a b outcome same is = is
-same_body config (Established timer peer) Update a b outcome same is = subst (λ (t : List ℕ). Accepts timer peer t outcome ⊎ Refuses peer t outcome) same is
-same_body config (Established timer peer) Notification a b outcome same is = subst (λ (t : List ℕ). outcome ≡ ended (notice t)) same is
+same_body config (Established timer peer) Update a b outcome same is =
+    subst (λ (t : List ℕ). Accepts timer peer t outcome ⊎ Refuses peer t outcome) same is
+same_body config (Established timer peer) Notification a b outcome same is =
+    subst (λ (t : List ℕ). outcome ≡ ended (notice t)) same is
 same_body config (Established timer peer) Keepalive a b outcome same is = is

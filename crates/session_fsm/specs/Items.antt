@@ -1,18 +1,15 @@
 -- The messages that an item may be (RFC 4271, section 4).
-use Rattle.std.specs.Prelude.{ℕ, ◌≤◌, List, length, slice_index}
+use Rattle.std.specs.Prelude.{ℕ, ◌+◌, ◌≤◌, List, length, slice_index}
 use Rattle.bgp_wire.specs.declared.kinds.MsgKind.{MsgKind}
-use Rattle.bgp_wire.specs.declared.kinds.MsgKind.TheVariants.{Open, Update, Notification, Keepalive}
+use Rattle.bgp_wire.specs.Lengths.{least_length}
 use Rattle.urpf_base.specs.declared.sessions.ResetCause.{ResetCause}
 use Rattle.urpf_base.specs.declared.sessions.ResetCause.TheVariants.{Notified}
 use Rattle.session_fsm.specs.declared.items.Item.{Item}
 use Rattle.session_fsm.specs.declared.items.Item.TheVariants.{Up, Message, HeaderFault, Down, Elapsed}
 
--- the octets behind the header are as many as a message of the kind has at least (RFC 4271, sections 4.2 to 4.5)
+-- with 19 octets of a header in front, so many are a message of the kind at least (RFC 4271, sections 4.1 to 4.5)
 abbrev pub HasLeast : MsgKind → ℕ → Type 0
-HasLeast Open count = 10 ≤ count
-HasLeast Update count = 4 ≤ count
-HasLeast Notification count = 2 ≤ count
-HasLeast Keepalive count = Unit {0}
+HasLeast kind count = least_length kind ≤ 19 + count
 
 -- an item that is a message is one of at least the length of its kind
 abbrev pub IsWhole : Item → Type 0

@@ -1,4 +1,5 @@
--- The table of steps: each state against each kind of item (RFC 4271, sections 6 and 8.2.2; the profile is our own choice).
+-- The table of steps: each state against each kind of item (RFC 4271, sections 6 and 8.2.2; the profile is our own
+-- choice).
 use Rattle.std.specs.Prelude.{◌≡◌, ◌⊎◌, ℕ, Bool, true, false, List, Option, Some, None}
 use Rattle.urpf_base.specs.RouteUpdates.{RouteUpdate}
 use Rattle.bgp_wire.specs.declared.kinds.MsgKind.TheVariants.{Open, Update, Notification, Keepalive}
@@ -8,7 +9,10 @@ use Rattle.bgp_update.specs.Update.{IsUpdate}
 use Rattle.bgp_update.specs.Faults.{IsFaultOf}
 use Rattle.urpf_base.specs.declared.sessions.ResetCause.{ResetCause}
 use Rattle.urpf_base.specs.declared.sessions.ResetCause.TheVariants.{Fault, Closed}
-use Rattle.session_fsm.specs.declared.codes.TheConstants.{MESSAGE_HEADER_ERROR, OPEN_MESSAGE_ERROR, UPDATE_MESSAGE_ERROR, HOLD_TIMER_EXPIRED, FINITE_STATE_MACHINE_ERROR, UNSPECIFIC}
+use Rattle.bgp_wire.specs.declared.header.TheConstants.{MESSAGE_HEADER_ERROR}
+use Rattle.bgp_open.specs.declared.faults.TheConstants.{OPEN_MESSAGE_ERROR}
+use Rattle.bgp_update.specs.declared.subcodes.TheConstants.{UPDATE_MESSAGE_ERROR}
+use Rattle.session_fsm.specs.declared.codes.TheConstants.{HOLD_TIMER_EXPIRED, FINITE_STATE_MACHINE_ERROR, UNSPECIFIC}
 use Rattle.urpf_base.specs.declared.sessions.SessionConfig.{SessionConfig}
 use Rattle.session_fsm.specs.declared.items.Item.{Item}
 use Rattle.session_fsm.specs.declared.items.Item.TheVariants.{Up, Message, HeaderFault, Down, Elapsed}
@@ -73,26 +77,33 @@ Step config (OpenSent timer) Up outcome = outcome ≡ (opened, Reset Closed)
 Step config (OpenSent timer) Down outcome = outcome ≡ ended Closed
 Step config (OpenSent timer) (HeaderFault sub) outcome = outcome ≡ ended (Fault MESSAGE_HEADER_ERROR sub)
 Step config (OpenSent timer) (Message Notification body) outcome = outcome ≡ ended (notice body.now)
-Step config (OpenSent timer) (Elapsed seconds) outcome = outcome ≡ waited (expires timer seconds) (OpenSent (later timer seconds))
-Step config (OpenSent timer) (Message Open body) outcome = outcome ≡ after_open config (open_seen body.now) (open_fault body.now config.peer_as)
+Step config (OpenSent timer) (Elapsed seconds) outcome =
+    outcome ≡ waited (expires timer seconds) (OpenSent (later timer seconds))
+Step config (OpenSent timer) (Message Open body) outcome =
+    outcome ≡ after_open config (open_seen body.now) (open_fault body.now config.peer_as)
 Step config (OpenSent timer) (Message Update body) outcome = outcome ≡ unexpected
 Step config (OpenSent timer) (Message Keepalive body) outcome = outcome ≡ unexpected
 Step config (OpenConfirm timer peer) Up outcome = outcome ≡ (opened, Reset Closed)
 Step config (OpenConfirm timer peer) Down outcome = outcome ≡ ended Closed
 Step config (OpenConfirm timer peer) (HeaderFault sub) outcome = outcome ≡ ended (Fault MESSAGE_HEADER_ERROR sub)
 Step config (OpenConfirm timer peer) (Message Notification body) outcome = outcome ≡ ended (notice body.now)
-Step config (OpenConfirm timer peer) (Elapsed seconds) outcome = outcome ≡ waited (expires timer seconds) (OpenConfirm (later timer seconds) peer)
+Step config (OpenConfirm timer peer) (Elapsed seconds) outcome =
+    outcome ≡ waited (expires timer seconds) (OpenConfirm (later timer seconds) peer)
 Step config (OpenConfirm timer peer) (Message Open body) outcome = outcome ≡ unexpected
 Step config (OpenConfirm timer peer) (Message Update body) outcome = outcome ≡ unexpected
-Step config (OpenConfirm timer peer) (Message Keepalive body) outcome = outcome ≡ (Established (started timer.limit) peer, Advanced)
+Step config (OpenConfirm timer peer) (Message Keepalive body) outcome =
+    outcome ≡ (Established (started timer.limit) peer, Advanced)
 Step config (Established timer peer) Up outcome = outcome ≡ (opened, Reset Closed)
 Step config (Established timer peer) Down outcome = outcome ≡ ended Closed
 Step config (Established timer peer) (HeaderFault sub) outcome = outcome ≡ ended (Fault MESSAGE_HEADER_ERROR sub)
 Step config (Established timer peer) (Message Notification body) outcome = outcome ≡ ended (notice body.now)
-Step config (Established timer peer) (Elapsed seconds) outcome = outcome ≡ waited (expires timer seconds) (Established (later timer seconds) peer)
+Step config (Established timer peer) (Elapsed seconds) outcome =
+    outcome ≡ waited (expires timer seconds) (Established (later timer seconds) peer)
 Step config (Established timer peer) (Message Open body) outcome = outcome ≡ unexpected
-Step config (Established timer peer) (Message Update body) outcome = Accepts timer peer body.now outcome ⊎ Refuses peer body.now outcome
-Step config (Established timer peer) (Message Keepalive body) outcome = outcome ≡ (Established (started timer.limit) peer, Nothing)
+Step config (Established timer peer) (Message Update body) outcome =
+    Accepts timer peer body.now outcome ⊎ Refuses peer body.now outcome
+Step config (Established timer peer) (Message Keepalive body) outcome =
+    outcome ≡ (Established (started timer.limit) peer, Nothing)
 
 -- the row of the state and the item ends the session for this cause
 abbrev pub Resets : SessionConfig → State → Item → ResetCause → Type 0

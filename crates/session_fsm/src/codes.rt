@@ -1,14 +1,5 @@
-//! The error codes of NOTIFICATIONs (RFC 4271, section 4.5), and the subcodes that a session itself
-//! gives.
-
-/// A header is faulty (RFC 4271, section 6.1).
-pub const MESSAGE_HEADER_ERROR: u8 = 1;
-
-/// An OPEN is faulty (RFC 4271, section 6.2).
-pub const OPEN_MESSAGE_ERROR: u8 = 2;
-
-/// An UPDATE is faulty (RFC 4271, section 6.3).
-pub const UPDATE_MESSAGE_ERROR: u8 = 3;
+//! The error codes that a session itself gives (RFC 4271, section 4.5), and their subcodes. Those of
+//! faulty messages stand with the readers of these.
 
 /// No KEEPALIVE and no UPDATE came within the hold time (RFC 4271, section 6.5).
 pub const HOLD_TIMER_EXPIRED: u8 = 4;

@@ -5,12 +5,11 @@ ghost use Rattle.session_fsm.specs.declared.states.State.TheVariants.{Establishe
 ghost use Rattle.session_fsm.specs.Items.{IsWhole};
 ghost use Rattle.session_fsm.specs.Table as table;
 
-use crate::codes::{MESSAGE_HEADER_ERROR, UPDATE_MESSAGE_ERROR};
 use crate::items::{Effect, Item};
 use crate::outcomes::{ended, notice, opened, unexpected, waited};
 use crate::states::{Peer, State, Timer};
-use bgp_update::read_update;
-use bgp_wire::MsgKind;
+use bgp_update::{UPDATE_MESSAGE_ERROR, read_update};
+use bgp_wire::{MESSAGE_HEADER_ERROR, MsgKind};
 use urpf_base::{ResetCause, SessionConfig};
 
 /// Routes are exchanged.

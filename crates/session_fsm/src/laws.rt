@@ -7,8 +7,7 @@ ghost use Rattle.session_fsm.specs.declared.states.State.{State};
 ghost use Rattle.session_fsm.specs.Table.{Step, Outcome};
 
 use crate::codes::{
-    CEASE, FINITE_STATE_MACHINE_ERROR, HOLD_TIMER_EXPIRED, MAXIMUM_PREFIXES_REACHED,
-    MESSAGE_HEADER_ERROR, OPEN_MESSAGE_ERROR, UNSPECIFIC, UPDATE_MESSAGE_ERROR,
+    CEASE, FINITE_STATE_MACHINE_ERROR, HOLD_TIMER_EXPIRED, MAXIMUM_PREFIXES_REACHED, UNSPECIFIC,
 };
 use crate::states::LARGE_HOLD_TIME;
 
@@ -16,9 +15,7 @@ use crate::states::LARGE_HOLD_TIME;
 /// RFC 4486, section 4), and the peer's OPEN is waited for as long as RFC 4271, section 8.2.2,
 /// suggests. Contracts and definitions cite them by name.
 pub fn assigned_numbers()
-    ensures messages { (MESSAGE_HEADER_ERROR ≡ 1) × (OPEN_MESSAGE_ERROR ≡ 2)
-        × (UPDATE_MESSAGE_ERROR ≡ 3) }
-    ensures others { (HOLD_TIMER_EXPIRED ≡ 4) × (FINITE_STATE_MACHINE_ERROR ≡ 5) × (CEASE ≡ 6) }
+    ensures codes { (HOLD_TIMER_EXPIRED ≡ 4) × (FINITE_STATE_MACHINE_ERROR ≡ 5) × (CEASE ≡ 6) }
     ensures subcodes { (UNSPECIFIC ≡ 0) × (MAXIMUM_PREFIXES_REACHED ≡ 1) }
     ensures wait { LARGE_HOLD_TIME ≡ 240 }
 {}

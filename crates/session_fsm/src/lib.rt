@@ -18,13 +18,7 @@ mod outcomes;
 mod rows;
 mod states;
 
-pub use codes::{
-    CEASE, FINITE_STATE_MACHINE_ERROR, HOLD_TIMER_EXPIRED, MAXIMUM_PREFIXES_REACHED,
-    MESSAGE_HEADER_ERROR, OPEN_MESSAGE_ERROR, UPDATE_MESSAGE_ERROR,
-};
+pub use codes::{CEASE, FINITE_STATE_MACHINE_ERROR, HOLD_TIMER_EXPIRED, MAXIMUM_PREFIXES_REACHED};
 pub use items::{Effect, Item};
 pub use laws::{assigned_numbers, one_step};
 pub use machine::Session;
-
-#[cfg(test)]
-mod tests;

@@ -4,11 +4,10 @@ ghost use Rattle.session_fsm.specs.declared.states.State.TheVariants.{OpenConfir
 ghost use Rattle.session_fsm.specs.Items.{IsWhole};
 ghost use Rattle.session_fsm.specs.Table as table;
 
-use crate::codes::MESSAGE_HEADER_ERROR;
 use crate::items::{Effect, Item};
 use crate::outcomes::{ended, notice, opened, unexpected, waited};
 use crate::states::{Peer, State, Timer};
-use bgp_wire::MsgKind;
+use bgp_wire::{MESSAGE_HEADER_ERROR, MsgKind};
 use urpf_base::{ResetCause, SessionConfig};
 
 /// The first KEEPALIVE of the peer is waited for.

@@ -7,13 +7,12 @@ ghost use Rattle.session_fsm.specs.Agreement as agreement;
 ghost use Rattle.session_fsm.specs.Items.{IsWhole};
 ghost use Rattle.session_fsm.specs.Table as table;
 
-use crate::codes::{MESSAGE_HEADER_ERROR, OPEN_MESSAGE_ERROR};
 use crate::items::{Effect, Item};
 use crate::outcomes::{ended, notice, opened, unexpected, waited};
 use crate::states::{Peer, State, Timer};
 use as_path::Width;
-use bgp_open::{OpenSeen, read_open};
-use bgp_wire::MsgKind;
+use bgp_open::{OPEN_MESSAGE_ERROR, OpenSeen, read_open};
+use bgp_wire::{MESSAGE_HEADER_ERROR, MsgKind};
 use urpf_base::{ResetCause, SessionConfig};
 
 /// The OPEN of the peer is waited for.

@@ -12,7 +12,7 @@ pub const LARGE_HOLD_TIME: u16 = 240;
 #[derive(Clone, Copy, Debug, PartialEq, Eq)]
 pub struct Timer {
     /// The seconds that passed; they stay at 2^32 - 1.
-    pub spent: u32,
+    pub elapsed: u32,
     /// The seconds after which the session ends. Where it is 0, none are too many.
     pub limit: u16,
 }
@@ -44,22 +44,22 @@ impl Timer {
     pub fn new(limit: u16) -> Timer
         ensures { result ≡ spec.started limit }
     {
-        Timer { spent: 0, limit }
+        Timer { elapsed: 0, limit }
     }
 
-    /// The same limit, and no second of it spent.
+    /// The same limit, and no second of it has passed.
     pub fn restarted(self) -> Timer
         ensures { result ≡ spec.started self.limit }
     {
         Timer::new(self.limit)
     }
 
-    /// So many seconds later. The seconds spent stay at 2^32 - 1.
+    /// So many seconds later. The seconds that passed stay at 2^32 - 1.
     pub fn later(self, seconds: u32) -> Timer
         ensures { result ≡ spec.later self seconds }
     {
         Timer {
-            spent: self.spent.saturating_add(seconds),
+            elapsed: self.elapsed.saturating_add(seconds),
             limit: self.limit,
         }
     }
@@ -71,6 +71,6 @@ impl Timer {
         if self.limit == 0 {
             return false;
         }
-        self.limit as u64 <= self.spent as u64 + seconds as u64
+        self.limit as u64 <= self.elapsed as u64 + seconds as u64
     }
 }

@@ -10,7 +10,10 @@ returns-in_default c =
     answers_no (alike_stuck (segment_reads c.args.width) c.loop-rest.invariant none some)
 
 pub loop-rest-smaller : goal.loop-rest-smaller
-loop-rest-smaller c = shorter c.args.width c.loop-rest.rest.now c.in-Some.segment.rest.now _ (sym c.in-Some.ensures.segment)
+loop-rest-smaller c =
+    shorter c.args.width c.loop-rest.rest.now c.in-Some.segment.rest.now _ (sym c.in-Some.ensures.segment)
 
 pub loop-rest-preserved : goal.loop-rest-preserved
-loop-rest-preserved c = alike_further (segment_reads c.args.width) c.loop-rest.invariant c.in-Some.segment.rest.now _ (sym c.in-Some.ensures.segment)
+loop-rest-preserved c =
+    alike_further (segment_reads c.args.width) c.loop-rest.invariant c.in-Some.segment.rest.now _
+    (sym c.in-Some.ensures.segment)

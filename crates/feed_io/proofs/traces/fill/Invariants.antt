@@ -1,12 +1,13 @@
-use Rattle.std.proofs.Common.{◌≤◌, ◌-◌, length}
-use Rattle.feed_io.specs.Reading.{Moved}
+use Rattle.std.proofs.Common.{◌≡◌, ◌≤◌, ◌-◌, length}
+use Rattle.feed_io.specs.TraceFeeds.{Moved}
 use Rattle.feed_io.proofs.traces.fill.Given as goal
 
 abbrev pub invariant-loop-piece : goal.invariant-loop-piece
 invariant-loop-piece g l = record {
-  moved : Moved (g.S.Source.left l.initial.input.source) l.initial.input.taken l.initial.head (g.S.Source.left l.input.source) l.input.taken l.head;
+  moved : Moved (g.S.Source.left l.initial.input.source) l.initial.input.taken l.initial.head
+      (g.S.Source.left l.input.source) l.input.taken l.head;
   grows : l.initial.input.taken ≤ l.input.taken;
-  later : g.S.Source.faults l.initial.input.source ≤ g.S.Source.faults l.input.source;
+  kept : g.S.Source.faults l.input.source ≡ g.S.Source.faults l.initial.input.source;
 }
 
 abbrev pub decreases-loop-piece : goal.decreases-loop-piece

@@ -4,4 +4,9 @@ use Rattle.ip_text.proofs.groups.joined.Goals as goal
 
 pub overflow_add-result : goal.overflow_add-result
 overflow_add-result c =
-    omega (arith, c.raised.ensures, joined_fits c.args.count c.args.others c.args.high c.args.low (omega arith) c.requires.high_fits c.requires.low_fits)
+    omega (
+      arith,
+      c.raised.ensures,
+      joined_fits c.args.count c.args.others c.args.high c.args.low (omega arith) c.requires.high_fits
+          c.requires.low_fits,
+    )

@@ -16,7 +16,12 @@ put_digits-requires t c =
 
 pub push-requires-2 : goal.push-requires-2
 push-requires-2 t c =
-    omega (arith, length-decimal_step c.args.n c.if-n-lt10.false c.ranges.n.fits, ap length c.put_digits.ensures, length-append c.args.to.now (decimal (c.args.n / 10)))
+    omega (
+      arith,
+      length-decimal_step c.args.n c.if-n-lt10.false c.ranges.n.fits,
+      ap length c.put_digits.ensures,
+      length-append c.args.to.now (decimal (c.args.n / 10)),
+    )
 
 pub returns : goal.returns
 returns t c =

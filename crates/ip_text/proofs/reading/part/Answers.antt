@@ -7,7 +7,8 @@ lacks_dot : (n : ℕ) → n < 256 → LacksByte 46 (decimal n)
 lacks_dot n small = decimal_lacks n 46 (omega arith) (λ within. omega arith)
 
 pub returns-in_default-clause-only : goal.returns-in_default-clause-only
-returns-in_default-clause-only c n rest small parts = c.in_default.ensures.only (decimal n) rest (lacks_dot n small) parts
+returns-in_default-clause-only c n rest small parts =
+    c.in_default.ensures.only (decimal n) rest (lacks_dot n small) parts
 
 pub returns-in_default-octet-clause-only : goal.returns-in_default-octet-clause-only
 returns-in_default-octet-clause-only c n rest small parts =

@@ -5,5 +5,6 @@ use Rattle.runbook.proofs.reading.read_line.Goals as goal
 
 pub returns-clause-only : goal.returns-clause-only
 returns-clause-only c s h =
-    let words : words_of c.args.line.now ≡ c.in-Some.first.now ∷ words_in c.in-Some.rest.now = ap words_in (sym c.cut_comment.ensures) ∙ c.in-Some.ensures.first in
+    let words : words_of c.args.line.now ≡ c.in-Some.first.now
+    ∷ words_in c.in-Some.rest.now = ap words_in (sym c.cut_comment.ensures) ∙ c.in-Some.ensures.first in
     c.judge_words.ensures.only s (subst (λ w. IsJudged w s) words h)

@@ -6,7 +6,8 @@ use Rattle.as_path.proofs.paths.PathView.read.Goals as goal
 use Rattle.as_path.proofs.paths.PathView.read.Goals.{Else-not-is_path}
 
 is_spelled : (c : Else-not-is_path) → IsPath c.args.width c.args.value.now (segments_in c.args.width c.args.value.now)
-is_spelled c = let some = c.is_path.ensures.0 c.if-not-is_path.false in spelled_in c.args.width c.args.value.now some.0 some.1
+is_spelled c = let some = c.is_path.ensures.0 c.if-not-is_path.false in
+    spelled_in c.args.width c.args.value.now some.0 some.1
 
 pub invariant_of-result : goal.invariant_of-result
 invariant_of-result c = (c.requires, is_spelled c)

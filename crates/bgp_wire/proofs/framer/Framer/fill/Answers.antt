@@ -6,5 +6,6 @@ use Rattle.bgp_wire.specs.States.{IsBuffered}
 pub append-requires : goal.append-requires
 append-requires c =
     let same = ap length c.held.ensures.held in
-    filled_upto c.args.self.now (take c.min-count.result c.args.piece.now) c.args.upto (subst IsBuffered c.held.ensures.held c.held.ensures.buffered) c.requires
+    filled_upto c.args.self.now (take c.min-count.result c.args.piece.now) c.args.upto
+    (subst IsBuffered c.held.ensures.held c.held.ensures.buffered) c.requires
     (omega (arith, length-take c.min-count.result c.args.piece.now))

@@ -4,7 +4,8 @@ use Rattle.bgp_wire.specs.Header.{header_fault, length_field}
 use Rattle.bgp_wire.proofs.Filling.{IsPushed, pushed-held, pushed-stops, pushed-first, none_from_test}
 use Rattle.bgp_wire.proofs.framer.Framer.push.Goals as goal
 
-pushed : (c : goal.After-fill) → IsPushed c.args.self.now c.args.piece.now c.fill-head.result c.fill-head.new.self c.fill.result c.fill.new.self
+pushed : (c : goal.After-fill)
+    → IsPushed c.args.self.now c.args.piece.now c.fill-head.result c.fill-head.new.self c.fill.result c.fill.new.self
 pushed c =
     let mid = c.fill-head.new.self in
     let behind = take (length c.args.piece.now - c.fill-head.result) (drop c.fill-head.result c.args.piece.now) in
@@ -15,9 +16,12 @@ pushed c =
       head_is = c.fill-head.ensures.count;
       mid_is = c.fill-head.ensures.held;
       header = omega arith;
-      good = ap header_fault (sym same) ∙ sym c.fault_of.ensures ∙ none_from_test _ (sym c.is_some.ensures ∙ c.if-is_some.false);
+      good = ap header_fault (sym same) ∙ sym c.fault_of.ensures
+          ∙ none_from_test _ (sym c.is_some.ensures ∙ c.if-is_some.false);
       count_is =
-          c.fill.ensures.count ∙ ap (λ n. min (n - length mid) (length behind)) (c.length_of-count.ensures ∙ ap length_field same) ∙ ap (λ xs. min (length_field mid - length mid) (length xs)) rest;
+          c.fill.ensures.count
+          ∙ ap (λ n. min (n - length mid) (length behind)) (c.length_of-count.ensures ∙ ap length_field same)
+          ∙ ap (λ xs. min (length_field mid - length mid) (length xs)) rest;
       new_is = c.fill.ensures.held ∙ ap (λ xs. mid ++ take c.fill.result xs) rest;
     }
 

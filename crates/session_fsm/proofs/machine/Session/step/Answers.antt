@@ -8,10 +8,15 @@ returns-clause-row c =
     subst (λ (s : Standing). Step s.config s.state c.args.item c.row-next.result) c.self.view_is c.row-next.ensures
 
 pub returns-clause-only : goal.returns-clause-only
-returns-clause-only c outcome step = one_outcome c.args.self.now.config c.args.self.now.state c.args.item _ outcome (returns-clause-row c) step
+returns-clause-only c outcome step =
+    one_outcome c.args.self.now.config c.args.self.now.state c.args.item _ outcome (returns-clause-row c) step
 
 pub returns-clause-resets : goal.returns-clause-resets
 returns-clause-resets c cause = (
-  λ e. (c.row-next.result.0, subst (λ effect. Step c.args.self.now.config c.args.self.now.state c.args.item (c.row-next.result.0, effect)) e (returns-clause-row c)),
+  λ e. (
+    c.row-next.result.0,
+    subst (λ effect. Step c.args.self.now.config c.args.self.now.state c.args.item (c.row-next.result.0, effect)) e
+        (returns-clause-row c),
+  ),
   λ x. ap (λ (o : Outcome). o.1) (returns-clause-only c _ x.1),
 )

@@ -1,0 +1,4 @@
+//! What no clause says: texts made by hand, and what is read of them, or written.
+mod addresses;
+mod books;
+mod lines;

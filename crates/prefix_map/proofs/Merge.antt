@@ -20,7 +20,7 @@ led None all later h = sym h.0
 led (Some x) all later h = sym h
 
 module _ {X : Type 0} where
-  abbrev AllAfter : Block → List (Block × X) → Type 0
+  abbrev pub AllAfter : Block → List (Block × X) → Type 0
   AllAfter p es = AllByRecursion (λ e. prefix_order p e.0 ≡ Less) es
 
   pub all_before : (p q : Block) (es : List (Block × X)) → prefix_order p q ≡ Less → AllAfter q es → AllAfter p es

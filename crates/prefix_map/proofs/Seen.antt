@@ -54,7 +54,7 @@ apart x y = refl
 back : (x : ShortKey) (y : LongKey) → prefix_order (long_block y) (short_block x) ≡ Greater
 back x y = refl
 
-holds : (b : Bool) → T b → b ≡ true
+pub holds : (b : Bool) → T b → b ≡ true
 holds true h = refl
 holds false h = absurd h
 

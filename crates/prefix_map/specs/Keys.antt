@@ -1,6 +1,7 @@
 -- The prefixes of a family as the keys that they are kept under.
-use Rattle.std.specs.Prelude.{ℕ, ◌+◌, ◌*◌, ◌^◌, List, ◌++◌, map}
+use Rattle.std.specs.Prelude.{◌+◌, ◌*◌, ◌^◌, ◌<◌}
 use Rattle.urpf_base.specs.Address.{Block}
+use Rattle.urpf_base.specs.declared.address.Addr.{Addr}
 use Rattle.urpf_base.specs.declared.address.Addr.TheVariants.{V4, V6}
 use Rattle.prefix_map.specs.declared.keys.ShortKey.{ShortKey}
 use Rattle.prefix_map.specs.declared.keys.LongKey.{LongKey}
@@ -19,3 +20,8 @@ long_block key = record { addr = V6 (key.high * 2 ^ 64 + key.low); len = key.len
 abbrev pub block_of_key : Key → Block
 block_of_key (Short key) = short_block key
 block_of_key (Long key) = long_block key
+
+-- the number of an address has no more bits than its family
+abbrev pub FitsFamily : Addr → Type 0
+FitsFamily (V4 a) = a < 2 ^ 32
+FitsFamily (V6 a) = a < 2 ^ 128

@@ -4,9 +4,11 @@
 mod beside;
 mod families;
 mod keys;
+mod laws;
 mod map;
 mod pairs;
 
 pub use beside::Beside;
+pub use laws::{beside_laws, map_laws, order_laws};
 pub use map::PrefixMap;
 pub use pairs::Pairs;

@@ -1,6 +1,9 @@
 //! The map: pairs go in and come out by their prefix, and a walk gives them in order.
-ghost use Rattle.std.specs.Prelude.{◌≡◌, ◌↔◌, ◌<◌, ◌≤◌, ◌+◌, ◌^◌, Some, None, IsSome, IfOk, OnOk, OnErr, length, option_copied};
+ghost use Rattle.std.specs.Prelude.{◌≡◌, ◌↔◌, ◌<◌, ◌≤◌, ◌+◌, ◌^◌, Some, None, IsSome, IfOk, OnOk, OnErr, IsTrue, length, option_copied};
+ghost use Rattle.urpf_base.specs.Address.{Block, Covers, width_of};
+ghost use Rattle.urpf_base.specs.Lists.{Has};
 ghost use Rattle.std.specs.FinMap as map;
+ghost use Rattle.prefix_map.specs.Keys.{FitsFamily};
 ghost use Rattle.prefix_map.specs.Mapped.{entries_after};
 ghost use Rattle.std.specs.BTreeMap.{IsOrdered, btree_map_len, get, insert_entry};
 
@@ -11,7 +14,8 @@ use std::alloc::Global;
 use std::collections::BTreeMap;
 use std::marker::Model;
 use std::ops::Bound;
-use urpf_base::{OutOfMemory, Prefix};
+use std::sync::ledger::Ledger;
+use urpf_base::{Addr, OutOfMemory, Prefix, Steps};
 
 /// The most pairs that a map comes to hold.
 const PAIRS_MOST: usize = 0x7FFF_FFFF_FFFF_FFFF;
@@ -129,6 +133,33 @@ impl<V: Copy> PrefixMap<V> {
         Pairs::over(short, long)
     }
 
+    /// Whether a prefix that is there covers the address. It asks for one prefix of each length, a
+    /// step for each: for 33 prefixes of IPv4 at most, or 129 of IPv6.
+    pub fn any_covers<L: Ledger>(&self, addr: &Addr, steps: &mut Steps<L>) -> bool
+        ensures covers { IsTrue result ↔ ((p : Block) × Has (map.keys self.now) p × Covers p addr.now) }
+        ensures bound { steps.new ≤ steps.old + width_of addr.now + 1 }
+        ensures up { steps.old ≤ steps.new }
+    {
+        let _ = &self.short;
+        let addr = *addr;
+        for len in 0..bits_of(addr) + 1 {
+            let prefix = Prefix::new(addr, len).unwrap();
+            if self.ask(&prefix, steps).is_some() {
+                return true;
+            }
+        }
+        false
+    }
+
+    /// The value of the prefix, in one step.
+    fn ask<L: Ledger>(&self, prefix: &Prefix, steps: &mut Steps<L>) -> Option<V>
+        ensures value { result ≡ map.get self.now prefix.now }
+        ensures step { steps.new ≡ steps.old + 1 }
+    {
+        steps.tick();
+        self.get(prefix)
+    }
+
     /// Another map with the same pairs.
     pub fn copied(&self) -> Result<PrefixMap<V>, OutOfMemory>
         requires { (a b : V) → V.is_clone a b → b ≡ a }
@@ -141,6 +172,17 @@ impl<V: Copy> PrefixMap<V> {
             return Err(OutOfMemory);
         };
         Ok(PrefixMap { short, long })
+    }
+}
+
+/// How many bits an address of this family has.
+fn bits_of(addr: Addr) -> u8
+    ensures width { result ≡ width_of addr }
+    ensures fits { FitsFamily addr }
+{
+    match addr {
+        Addr::V4(_) => 32,
+        Addr::V6(_) => 128,
     }
 }
 

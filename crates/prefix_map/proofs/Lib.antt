@@ -8,3 +8,4 @@ pub mod Outcomes
 pub mod Seen
 pub mod Sides
 pub mod Sorted
+pub mod Walk

@@ -20,9 +20,9 @@ on R f x y = R (f x) (f y)
 filter-append : {X : Type 0} (p : X → Bool) (xs ys : List X) → filter p (xs ++ ys) ≡ filter p xs ++ filter p ys
 filter-append p [] ys = refl
 filter-append p (x ∷ xs) ys = elim (p x) as (λ b. cond b (x ∷ filter p (xs ++ ys)) (filter p (xs ++ ys)) ≡ cond b (x ∷ filter p xs) (filter p xs) ++ filter p ys) [
-    | true ↦ ap (λ t. x ∷ t) (filter-append p xs ys)
-    | false ↦ filter-append p xs ys
-  ]
+  | true ↦ ap (λ t. x ∷ t) (filter-append p xs ys)
+  | false ↦ filter-append p xs ys
+]
 
 filter-under : {A K X : Type 0} (f : A → K) (p : K → Bool) (xs : List (A × X)) → filter (λ e. p e.0) (under f xs) ≡ under f (filter (λ e. p (f e.0)) xs)
 filter-under f p [] = refl
@@ -68,10 +68,10 @@ module _ {A K X : Type 0} (R : K → K → Ordering) (f : A → K) where
   put-under k v [] = refl
   put-under k v (e ∷ es) = elim (R (f k) (f e.0)) as (λ o. by_order o ((f k, v) ∷ (f e.0, e.1) ∷ under f es) ((f e.0, v) ∷ under f es) ((f e.0, e.1) ∷ put R (f k) v (under f es))
       ≡ under f (by_order o ((k, v) ∷ e ∷ es) ((e.0, v) ∷ es) (e ∷ put (on R f) k v es))) [
-      | Less ↦ refl
-      | Equal ↦ refl
-      | Greater ↦ ap (λ t. (f e.0, e.1) ∷ t) (put-under k v es)
-    ]
+        | Less ↦ refl
+        | Equal ↦ refl
+        | Greater ↦ ap (λ t. (f e.0, e.1) ∷ t) (put-under k v es)
+      ]
 
 module _ {A B K X : Type 0} (R : K → K → Ordering) (left : A → K) (right : B → K) (apart : (x : A) (y : B) → R (left x) (right y) ≡ Less) (back : (x : A) (y : B) → R (right y) (left x) ≡ Greater) where
   below-right : (x : A) (ys : List (B × X)) → below_all R (left x) (under right ys) ≡ true
@@ -114,10 +114,10 @@ module _ {A B K X : Type 0} (R : K → K → Ordering) (left : A → K) (right :
   put-left k v [] ys = put_first-right k v ys
   put-left k v (x ∷ xs) ys = elim (R (left k) (left x.0)) as (λ o. by_order o ((left k, v) ∷ joined left right (x ∷ xs) ys) ((left x.0, v) ∷ joined left right xs ys) ((left x.0, x.1) ∷ put R (left k) v (joined left right xs ys))
       ≡ joined left right (by_order o ((k, v) ∷ x ∷ xs) ((x.0, v) ∷ xs) (x ∷ put (on R left) k v xs)) ys) [
-      | Less ↦ refl
-      | Equal ↦ refl
-      | Greater ↦ ap (λ t. (left x.0, x.1) ∷ t) (put-left k v xs ys)
-    ]
+        | Less ↦ refl
+        | Equal ↦ refl
+        | Greater ↦ ap (λ t. (left x.0, x.1) ∷ t) (put-left k v xs ys)
+      ]
 
   pub put-right : (k : B) (v : X) (xs : List (A × X)) (ys : List (B × X)) → put R (right k) v (joined left right xs ys) ≡ joined left right xs (put (on R right) k v ys)
   put-right k v [] ys = put-under R right k v ys
@@ -145,10 +145,10 @@ module _ {A B K X : Type 0} (R : K → K → Ordering) (left : A → K) (right :
 pub insert-put : {A X : Type 0} (R : A → A → Ordering) (k : A) (v : X) (es : List (A × X)) → insert_entry R es k v ≡ put R k v es
 insert-put R k v [] = refl
 insert-put R k v (e ∷ es) = elim (R k e.0) as (λ o. match_ordering o ((k, v) ∷ e ∷ es) ((e.0, v) ∷ es) (e ∷ insert_entry R es k v) ≡ by_order o ((k, v) ∷ e ∷ es) ((e.0, v) ∷ es) (e ∷ put R k v es)) [
-    | Less ↦ refl
-    | Equal ↦ refl
-    | Greater ↦ ap (λ t. e ∷ t) (insert-put R k v es)
-  ]
+  | Less ↦ refl
+  | Equal ↦ refl
+  | Greater ↦ ap (λ t. e ∷ t) (insert-put R k v es)
+]
 
 -- where no later key ties, taking the first one out leaves all others
 pub remove-others : {A X : Type 0} {R : A → A → Ordering} → IsTotalOrder R → (q : A) (es : List (A × X)) → is_sorted R es ≡ true → remove_entry (λ k. is_eq (R q k)) es ≡ filter (λ e. not (is_eq (R q e.0))) es

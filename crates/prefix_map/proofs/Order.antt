@@ -31,12 +31,12 @@ prefix_total =
     (then_total (on_total (λ (b : Block). family b.addr) nat_cmp_total)
     (then_total (on_total (λ (b : Block). number b.addr) nat_cmp_total) (on_total (λ (b : Block). b.len) nat_cmp_total)))
 
-first_tie : (o p : Ordering) → ordering_then o p ≡ Equal → o ≡ Equal
+pub first_tie : (o p : Ordering) → ordering_then o p ≡ Equal → o ≡ Equal
 first_tie Less p e = e
 first_tie Equal p e = refl
 first_tie Greater p e = e
 
-second_tie : (o p : Ordering) → ordering_then o p ≡ Equal → p ≡ Equal
+pub second_tie : (o p : Ordering) → ordering_then o p ≡ Equal → p ≡ Equal
 second_tie Less p e = cc
 second_tie Equal p e = e
 second_tie Greater p e = cc

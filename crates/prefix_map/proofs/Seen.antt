@@ -90,32 +90,32 @@ module _ {V : Type 0} where
   pub insert-short : (xs : List (ShortKey × V)) (ys : List (LongKey × V)) (k : ShortKey) (v : V) → AreKept xs ys → AreKept (insert_entry own_short xs k v) ys
       → finite.insert (seen xs ys) (short_block k) v ≡ seen (insert_entry own_short xs k v) ys
   insert-short xs ys k v kept later = same_entries_map _ _ (
-    entries-insert prefix_total (seen xs ys) (short_block k) v
-    ∙ ap (put prefix_order (short_block k) v) (entries-seen xs ys kept)
-    ∙ put-left prefix_order short_block long_block apart back k v xs ys
-    ∙ ap (λ zs. whole zs ys) (sym (insert-put short_order k v xs))
-    ∙ sym (entries-seen (insert_entry own_short xs k v) ys later))
+      entries-insert prefix_total (seen xs ys) (short_block k) v
+      ∙ ap (put prefix_order (short_block k) v) (entries-seen xs ys kept)
+      ∙ put-left prefix_order short_block long_block apart back k v xs ys
+      ∙ ap (λ zs. whole zs ys) (sym (insert-put short_order k v xs))
+      ∙ sym (entries-seen (insert_entry own_short xs k v) ys later))
 
   pub insert-long : (xs : List (ShortKey × V)) (ys : List (LongKey × V)) (k : LongKey) (v : V) → AreKept xs ys → AreKept xs (insert_entry own_long ys k v)
       → finite.insert (seen xs ys) (long_block k) v ≡ seen xs (insert_entry own_long ys k v)
   insert-long xs ys k v kept later = same_entries_map _ _ (
-    entries-insert prefix_total (seen xs ys) (long_block k) v
-    ∙ ap (put prefix_order (long_block k) v) (entries-seen xs ys kept)
-    ∙ put-right prefix_order short_block long_block apart back k v xs ys
-    ∙ ap (λ zs. whole xs zs) (sym (insert-put long_order k v ys) ∙ ap (λ R. insert_entry R ys k v) (sym long_agrees))
-    ∙ sym (entries-seen xs (insert_entry own_long ys k v) later))
+      entries-insert prefix_total (seen xs ys) (long_block k) v
+      ∙ ap (put prefix_order (long_block k) v) (entries-seen xs ys kept)
+      ∙ put-right prefix_order short_block long_block apart back k v xs ys
+      ∙ ap (λ zs. whole xs zs) (sym (insert-put long_order k v ys) ∙ ap (λ R. insert_entry R ys k v) (sym long_agrees))
+      ∙ sym (entries-seen xs (insert_entry own_long ys k v) later))
 
   -- a map without a prefix, from a list without it
   without : (m : Mapped V) (k : Block) (xs : List (ShortKey × V)) (ys : List (LongKey × V)) → AreKept xs ys
       → whole xs ys ≡ filter (λ e. not (eq_by_cmp prefix_order k e.0)) (entries m) → finite.remove m k ≡ seen xs ys
   without m k xs ys kept is = same_map prefix_total prefix_ties _ _ (λ q.
-    get-remove prefix_total m k q
-    ∙ ap (λ b. cond b None (finite.get m q)) (sym ((eq_by_cmp_equiv prefix_total).symm k q))
-    ∙ sym (turned (eq_by_cmp prefix_order k q) (finite.get m q) None)
-    ∙ ap (λ r. cond (not (eq_by_cmp prefix_order k q)) r None) (get-entries m q)
-    ∙ sym (find-where_key prefix_order (λ x. not (eq_by_cmp prefix_order k x)) q (λ x t. ap (λ r. not (is_eq r)) (sym (alike_right prefix_total q x k t))) (entries m))
-    ∙ ap (find prefix_order q) (sym is)
-    ∙ sym (find-seen xs ys kept q))
+      get-remove prefix_total m k q
+      ∙ ap (λ b. cond b None (finite.get m q)) (sym ((eq_by_cmp_equiv prefix_total).symm k q))
+      ∙ sym (turned (eq_by_cmp prefix_order k q) (finite.get m q) None)
+      ∙ ap (λ r. cond (not (eq_by_cmp prefix_order k q)) r None) (get-entries m q)
+      ∙ sym (find-where_key prefix_order (λ x. not (eq_by_cmp prefix_order k x)) q (λ x t. ap (λ r. not (is_eq r)) (sym (alike_right prefix_total q x k t))) (entries m))
+      ∙ ap (find prefix_order q) (sym is)
+      ∙ sym (find-seen xs ys kept q))
     where
       turned : {A : Type 0} (b : Bool) (x y : A) → cond (not b) x y ≡ cond b y x
       turned true x y = refl
@@ -124,17 +124,17 @@ module _ {V : Type 0} where
   pub remove-short : (xs : List (ShortKey × V)) (ys : List (LongKey × V)) (k : ShortKey) → AreKept xs ys → AreKept (remove_entry (λ q. is_eq (own_short k q)) xs) ys
       → finite.remove (seen xs ys) (short_block k) ≡ seen (remove_entry (λ q. is_eq (own_short k q)) xs) ys
   remove-short xs ys k kept later = without (seen xs ys) (short_block k) (remove_entry (λ q. is_eq (own_short k q)) xs) ys later (
-    ap (λ zs. whole zs ys) (remove-others (on_total short_block prefix_total) k xs kept.shorts)
-    ∙ sym (others-left prefix_order short_block long_block apart back k xs ys)
-    ∙ ap (filter (λ e. not (eq_by_cmp prefix_order (short_block k) e.0))) (sym (entries-seen xs ys kept)))
+      ap (λ zs. whole zs ys) (remove-others (on_total short_block prefix_total) k xs kept.shorts)
+      ∙ sym (others-left prefix_order short_block long_block apart back k xs ys)
+      ∙ ap (filter (λ e. not (eq_by_cmp prefix_order (short_block k) e.0))) (sym (entries-seen xs ys kept)))
 
   pub remove-long : (xs : List (ShortKey × V)) (ys : List (LongKey × V)) (k : LongKey) → AreKept xs ys → AreKept xs (remove_entry (λ q. is_eq (own_long k q)) ys)
       → finite.remove (seen xs ys) (long_block k) ≡ seen xs (remove_entry (λ q. is_eq (own_long k q)) ys)
   remove-long xs ys k kept later = without (seen xs ys) (long_block k) xs (remove_entry (λ q. is_eq (own_long k q)) ys) later (
-    ap (λ R. whole xs (remove_entry (λ q. is_eq (R k q)) ys)) long_agrees
-    ∙ ap (λ zs. whole xs zs) (remove-others (on_total long_block prefix_total) k ys kept.longs)
-    ∙ sym (others-right prefix_order short_block long_block apart back k xs ys)
-    ∙ ap (filter (λ e. not (eq_by_cmp prefix_order (long_block k) e.0))) (sym (entries-seen xs ys kept)))
+      ap (λ R. whole xs (remove_entry (λ q. is_eq (R k q)) ys)) long_agrees
+      ∙ ap (λ zs. whole xs zs) (remove-others (on_total long_block prefix_total) k ys kept.longs)
+      ∙ sym (others-right prefix_order short_block long_block apart back k xs ys)
+      ∙ ap (filter (λ e. not (eq_by_cmp prefix_order (long_block k) e.0))) (sym (entries-seen xs ys kept)))
 
   pub len-seen : (xs : List (ShortKey × V)) (ys : List (LongKey × V)) → AreKept xs ys → finite.len (seen xs ys) ≡ length xs + length ys
   len-seen xs ys kept = len-entries (seen xs ys) ∙ ap length (entries-seen xs ys kept) ∙ length-joined short_block long_block xs ys
@@ -147,8 +147,8 @@ module _ {V : Type 0} where
       ap (filter (λ e. is_after start e.0)) (entries-seen xs ys kept)
       ∙ filter-joined prefix_order short_block long_block apart back (is_after start) xs ys
       ∙ (λ i. whole
-        (filter_same _ _ (λ (e : ShortKey × V). sym (shorts e.0) ∙ sym (and_true _)) xs i)
-        (filter_same _ _ (λ (e : LongKey × V). sym (longs e.0) ∙ ap (λ R. is_from_start R hi e.0) (sym long_agrees) ∙ sym (and_true _)) ys i))
+      (filter_same _ _ (λ (e : ShortKey × V). sym (shorts e.0) ∙ sym (and_true _)) xs i)
+      (filter_same _ _ (λ (e : LongKey × V). sym (longs e.0) ∙ ap (λ R. is_from_start R hi e.0) (sym long_agrees) ∙ sym (and_true _)) ys i))
     where
       and_true : (b : Bool) → (b && true) ≡ b
       and_true true = refl

@@ -30,16 +30,16 @@ or_none (Some x) = refl
 find-append : {X : Type 0} (p : Block) (xs ys : List (Block × X)) → find prefix_order p (xs ++ ys) ≡ or_else (find prefix_order p xs) (find prefix_order p ys)
 find-append p [] ys = refl
 find-append p (x ∷ xs) ys = elim (eq_by_cmp prefix_order p x.0) as (λ b. cond b (Some x.1) (find prefix_order p (xs ++ ys)) ≡ or_else (cond b (Some x.1) (find prefix_order p xs)) (find prefix_order p ys)) [
-    | true ↦ refl
-    | false ↦ find-append p xs ys
-  ]
+  | true ↦ refl
+  | false ↦ find-append p xs ys
+]
 
 find-alone : {V W : Type 0} (p : Block) (ys : List (Block × W)) → find prefix_order p (right_alone {V = V} ys) ≡ either {V = V} None (find prefix_order p ys)
 find-alone p [] = refl
 find-alone {V} p (y ∷ ys) = elim (eq_by_cmp prefix_order p y.0) as (λ b. cond b (Some (None, Some y.1)) (find prefix_order p (right_alone {V = V} ys)) ≡ either {V = V} None (cond b (Some y.1) (find prefix_order p ys))) [
-    | true ↦ refl
-    | false ↦ find-alone p ys
-  ]
+  | true ↦ refl
+  | false ↦ find-alone p ys
+]
 
 -- a filter by how the prefix of x compares keeps what is found, or loses it
 find-part : {X : Type 0} (test : Ordering → Bool) (x p : Block) (es : List (Block × X)) → find prefix_order p (filter (λ e. test (prefix_order x e.0)) es) ≡ cond (test (prefix_order x p)) (find prefix_order p es) None
@@ -52,7 +52,7 @@ either_none (Some w) = refl
 -- where p stands before, at or behind the first of the left
 at_first : {V W : Type 0} (r : Ordering) (x : V) (found_x : Option V) (found_y there : Option W) → (r ≡ Less → found_x ≡ None) → (r ≡ Equal → there ≡ found_y)
     → or_else (either None (cond (is_gt (ordering_reverse r)) found_y None)) (cond (is_eq r) (Some (Some x, there)) (either found_x (cond (is_lt (ordering_reverse r)) found_y None)))
-      ≡ either (cond (is_eq r) (Some x) found_x) found_y
+    ≡ either (cond (is_eq r) (Some x) found_x) found_y
 at_first Less x found_x found_y there before tied = rw (before refl) (either_none found_y)
 at_first Equal x found_x found_y there before tied = ap (λ w. Some (Some x, w)) (tied refl)
 at_first Greater x found_x found_y there before tied = refl
@@ -74,15 +74,15 @@ module _ {V W : Type 0} where
       ∙ (λ i. or_else (either {V = V} None (find-part is_gt x.0 p ys i)) (cond (eq_by_cmp prefix_order p x.0) (Some (Some x.1, there)) (either (find prefix_order p xs) (find-part is_lt x.0 p ys i))))
       ∙ (λ i. or_else (either {V = V} None (cond (is_gt (turned i)) (find prefix_order p ys) None)) (cond (eq_by_cmp prefix_order p x.0) (Some (Some x.1, there)) (either (find prefix_order p xs) (cond (is_lt (turned i)) (find prefix_order p ys) None))))
       ∙ at_first (prefix_order p x.0) x.1 (find prefix_order p xs) (find prefix_order p ys) there
-        (λ less. none_found p xs (all_before p x.0 xs less (head_below prefix_order x xs h)))
-        (λ tied. find_tied prefix_order prefix_total p x.0 tied ys)
+      (λ less. none_found p xs (all_before p x.0 xs less (head_below prefix_order x xs h)))
+      (λ tied. find_tied prefix_order prefix_total p x.0 tied ys)
 
 all_part : {X : Type 0} (P : Block × X → Type 0) (test : Block × X → Bool) (es : List (Block × X)) → AllByRecursion P es → AllByRecursion P (filter test es)
 all_part P test [] h = tt
 all_part P test (e ∷ es) h = elim (test e) as (λ b. AllByRecursion P (cond b (e ∷ filter test es) (filter test es))) [
-    | true ↦ (h.0, all_part P test es h.1)
-    | false ↦ all_part P test es h.1
-  ]
+  | true ↦ (h.0, all_part P test es h.1)
+  | false ↦ all_part P test es h.1
+]
 
 all_append : {X : Type 0} (P : X → Type 0) (xs ys : List X) → AllByRecursion P xs → AllByRecursion P ys → AllByRecursion P (xs ++ ys)
 all_append P [] ys h k = k
@@ -92,9 +92,9 @@ all_append P (x ∷ xs) ys h k = (h.0, all_append P xs ys h.1 k)
 all_told : {X : Type 0} (P : Block × X → Type 0) (test : Block × X → Bool) → ((e : Block × X) → test e ≡ true → P e) → (es : List (Block × X)) → AllByRecursion P (filter test es)
 all_told P test tells [] = tt
 all_told {X} P test tells (e ∷ es) = elim (test e) as (λ b. test e ≡ b → AllByRecursion P (cond b (e ∷ filter test es) (filter test es))) [
-    | true ↦ λ is. (tells e is, all_told P test tells es)
-    | false ↦ λ is. all_told P test tells es
-  ] refl
+  | true ↦ λ is. (tells e is, all_told P test tells es)
+  | false ↦ λ is. all_told P test tells es
+] refl
 
 below : {X : Type 0} (p : Block) (es : List (Block × X)) → AllAfter p es → below_all prefix_order p es ≡ true
 below p [] h = refl
@@ -128,8 +128,8 @@ module _ {V W : Type 0} where
   beside_after p [] ys h k = alone_after V p ys k
   beside_after p (x ∷ xs) ys h k =
       all_append (λ e. prefix_order p e.0 ≡ Less) (right_alone (filter (λ y. is_gt (prefix_order x.0 y.0)) ys)) ((x.0, (Some x.1, find prefix_order x.0 ys)) ∷ beside xs (filter (λ y. is_lt (prefix_order x.0 y.0)) ys))
-        (alone_after V p _ (all_part (λ e. prefix_order p e.0 ≡ Less) (λ y. is_gt (prefix_order x.0 y.0)) ys k))
-        (h.0, beside_after p xs _ h.1 (all_part (λ e. prefix_order p e.0 ≡ Less) (λ y. is_lt (prefix_order x.0 y.0)) ys k))
+      (alone_after V p _ (all_part (λ e. prefix_order p e.0 ≡ Less) (λ y. is_gt (prefix_order x.0 y.0)) ys k))
+      (h.0, beside_after p xs _ h.1 (all_part (λ e. prefix_order p e.0 ≡ Less) (λ y. is_lt (prefix_order x.0 y.0)) ys k))
 
   -- pairs in order, all before x, and then x and what comes after it
   sorted_onto : (ys : List (Block × W)) (x : Block × (Option V × Option W)) (rest : List (Block × (Option V × Option W))) → is_sorted prefix_order ys ≡ true → AllByRecursion (λ y. prefix_order y.0 x.0 ≡ Less) ys
@@ -137,17 +137,17 @@ module _ {V W : Type 0} where
   sorted_onto [] x rest h before after k = sorted_cons x rest after k
   sorted_onto (y ∷ ys) x rest h before after k =
       sorted_cons (y.0, (None, Some y.1)) (right_alone ys ++ x ∷ rest)
-        (all_append (λ e. prefix_order y.0 e.0 ≡ Less) (right_alone ys) (x ∷ rest) (alone_after V y.0 ys (head_below prefix_order y ys h)) (before.0, all_before y.0 x.0 rest before.0 after))
-        (sorted_onto ys x rest (tail_sorted prefix_order y ys h) before.1 after k)
+      (all_append (λ e. prefix_order y.0 e.0 ≡ Less) (right_alone ys) (x ∷ rest) (alone_after V y.0 ys (head_below prefix_order y ys h)) (before.0, all_before y.0 x.0 rest before.0 after))
+      (sorted_onto ys x rest (tail_sorted prefix_order y ys h) before.1 after k)
 
   pub sorted-beside : (xs : List (Block × V)) (ys : List (Block × W)) → is_sorted prefix_order xs ≡ true → is_sorted prefix_order ys ≡ true → is_sorted prefix_order (beside xs ys) ≡ true
   sorted-beside [] ys h k = sorted_alone V ys k
   sorted-beside (x ∷ xs) ys h k =
       sorted_onto (filter (λ y. is_gt (prefix_order x.0 y.0)) ys) (x.0, (Some x.1, find prefix_order x.0 ys)) (beside xs (filter (λ y. is_lt (prefix_order x.0 y.0)) ys))
-        (sorted_part (λ q. is_gt (prefix_order x.0 q)) ys k)
-        (all_told (λ y. prefix_order y.0 x.0 ≡ Less) (λ y. is_gt (prefix_order x.0 y.0)) (λ y is. prefix_total.antisymm y.0 x.0 ∙ ap ordering_reverse (greater_is _ is)) ys)
-        (beside_after x.0 xs _ (head_below prefix_order x xs h) (all_told (λ y. prefix_order x.0 y.0 ≡ Less) (λ y. is_lt (prefix_order x.0 y.0)) (λ y is. less_is _ is) ys))
-        (sorted-beside xs _ (tail_sorted prefix_order x xs h) (sorted_part (λ q. is_lt (prefix_order x.0 q)) ys k))
+      (sorted_part (λ q. is_gt (prefix_order x.0 q)) ys k)
+      (all_told (λ y. prefix_order y.0 x.0 ≡ Less) (λ y. is_gt (prefix_order x.0 y.0)) (λ y is. prefix_total.antisymm y.0 x.0 ∙ ap ordering_reverse (greater_is _ is)) ys)
+      (beside_after x.0 xs _ (head_below prefix_order x xs h) (all_told (λ y. prefix_order x.0 y.0 ≡ Less) (λ y. is_lt (prefix_order x.0 y.0)) (λ y is. less_is _ is) ys))
+      (sorted-beside xs _ (tail_sorted prefix_order x xs h) (sorted_part (λ q. is_lt (prefix_order x.0 q)) ys k))
 
   maps_sorted : (m : Mapped V) (n : Mapped W) → is_sorted prefix_order (beside (entries m) (entries n)) ≡ true
   maps_sorted m n = sorted-beside (entries m) (entries n) (entries_ascend m) (entries_ascend n)

@@ -18,5 +18,5 @@ pub returns-clause-covers : goal.returns-clause-covers
 returns-clause-covers g c = (
   λ yes. absurd cc,
   λ (p, has, covers). absurd (none_cover _ _ c.args.self.now c.args.addr.now c.self.invariant c.self.view_is c.bits_of-len-end.ensures.fits
-    (λ k within. c.loop-len.invariant.none k (omega (arith, within))) p has covers),
+      (λ k within. c.loop-len.invariant.none k (omega (arith, within))) p has covers),
 )

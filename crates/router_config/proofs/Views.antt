@@ -1,7 +1,7 @@
 -- What a table and an array of a document are seen as.
-use Rattle.std.proofs.Common.{◌≡◌, Bool, true, false, cond, List, [], ◌∷◌, map, Option, Some, None, String, Vec, BTreeMap, Global, string_bytes, ℕ, refl, ap, sym, ◌∙◌}
+use Rattle.std.proofs.Common.{◌≡◌, ◌||◌, Bool, true, false, cond, List, [], ◌∷◌, map, Option, Some, None, String, Vec, BTreeMap, Global, string_bytes, ℕ, refl, ap, sym, ◌∙◌}
 use Rattle.std.specs.BTreeMap.{keys}
-use Rattle.std.specs.List.{list_all}
+use Rattle.std.specs.List.{list_all, list_any}
 use Rattle.std.proofs.lemmas.List.Folds.{list_all-map}
 use Rattle.toml.proofs.Views.{view-Array, view-Table}
 use Rattle.toml.specs.Data.{Data}
@@ -40,3 +40,8 @@ has_only-Table known table =
     ap (has_only known) (view-Table table)
     ∙ ap (list_all (is_one_of known)) (keys_of-members_view table.entries)
     ∙ list_all-map (is_one_of known) string_bytes (keys table)
+
+-- a test of the images of a list
+pub list_any-map : {X Y : Type 0} (test : X → Bool) (f : Y → X) (ys : List Y) → list_any test (map f ys) ≡ list_any (λ y. test (f y)) ys
+list_any-map test f [] = refl
+list_any-map test f (y ∷ ys) = ap (λ rest. test (f y) || rest) (list_any-map test f ys)

@@ -1,5 +1,5 @@
 -- The rules of a configuration, over the document that a text is. Our own choice.
-use Rattle.std.specs.Prelude.{ℕ, ◌==◌, nat_lt, nat_le, not, Bool, true, false, List, [], ◌∷◌, ◌++◌, length, Option, Some, None, option_map, option_and_then, is_some, unwrap_or, codes, if◌then◌else◌}
+use Rattle.std.specs.Prelude.{ℕ, ◌==◌, nat_lt, nat_le, ◌||◌, not, Bool, true, false, List, [], ◌∷◌, ◌++◌, length, Option, Some, None, option_map, option_and_then, is_some, unwrap_or, codes, if◌then◌else◌}
 use Rattle.std.specs.List.{list_any}
 use Rattle.std.specs.Option.{option_map_or}
 use Rattle.toml.specs.Data.{Data, get}
@@ -39,19 +39,23 @@ role_of interface = option_and_then role_named (text_at (codes "role") interface
 abbrev pub mode_of : Data → Option Mode
 mode_of interface = option_and_then mode_named (text_at (codes "mode") interface)
 
--- an interface that stands behind these: its number is used by none of them
+-- none of these interfaces has this number
+abbrev pub is_free : List Data → ℕ → Bool
+is_free interfaces number = not (list_any (has_number number) interfaces)
+
+-- an interface that stands behind these
 abbrev pub interface_rules : List Data → Data → List Rule
 interface_rules before interface =
     rule kind.UnknownKey (length before) (has_only (keys_at place.Interface) interface)
     ∷ rule kind.Number (length before) (is_some (number_of interface))
-    ∷ rule kind.Repeat (length before) (option_map_or (λ n. not (list_any (has_number n) before)) (number_of interface) true)
+    ∷ rule kind.Repeat (length before) (option_map_or (is_free before) (number_of interface) true)
     ∷ rule kind.Role (length before) (is_some (role_of interface))
     ∷ rule kind.Mode (length before) (is_some (mode_of interface))
     ∷ []
 
 -- the number of an interface, where one of these has it
 abbrev pub configured : List Data → ℕ → Option ℕ
-configured interfaces number = if list_any (has_number number) interfaces then Some number else None
+configured interfaces number = if is_free interfaces number then None else Some number
 
 -- the interface of a session
 abbrev pub iface_of : List Data → Data → Option ℕ
@@ -62,8 +66,11 @@ abbrev pub peer_as_of : Data → Option ℕ
 peer_as_of session = number_at (codes "peer_as") 1 4294967295 session
 
 -- a hold time in seconds: 0, or 3 or more (RFC 4271, section 4.2)
+abbrev pub is_hold : ℕ → Bool
+is_hold seconds = (seconds == 0) || nat_le 3 seconds
+
 abbrev pub as_hold : Data → Option ℕ
-as_hold value = option_and_then (λ n. if n == 1 then None else if n == 2 then None else Some n) (as_number 0 65535 value)
+as_hold value = option_and_then (λ n. if is_hold n then Some n else None) (as_number 0 65535 value)
 
 -- the hold time, 90 seconds where it is left out
 abbrev pub hold_of : Data → Option ℕ
@@ -73,14 +80,14 @@ hold_of session = option_map_or as_hold (get (codes "hold") session) (Some 90)
 abbrev pub max_of : Data → Option ℕ
 max_of session = option_map_or (as_number 1 4000000) (get (codes "max_prefixes") session) (Some 2000000)
 
--- a session that stands behind these
-abbrev pub session_rules : List Data → List Data → Data → List Rule
-session_rules interfaces before session =
-    rule kind.UnknownKey (length before) (has_only (keys_at place.Session) session)
-    ∷ rule kind.Interface (length before) (is_some (iface_of interfaces session))
-    ∷ rule kind.PeerAs (length before) (is_some (peer_as_of session))
-    ∷ rule kind.Hold (length before) (is_some (hold_of session))
-    ∷ rule kind.MaxPrefixes (length before) (is_some (max_of session))
+-- the session at this place among the sessions
+abbrev pub session_rules : List Data → ℕ → Data → List Rule
+session_rules interfaces index session =
+    rule kind.UnknownKey index (has_only (keys_at place.Session) session)
+    ∷ rule kind.Interface index (is_some (iface_of interfaces session))
+    ∷ rule kind.PeerAs index (is_some (peer_as_of session))
+    ∷ rule kind.Hold index (is_some (hold_of session))
+    ∷ rule kind.MaxPrefixes index (is_some (max_of session))
     ∷ []
 
 -- the rules of each table, which stands behind those before it
@@ -99,13 +106,23 @@ sessions_at document = option_map_or as_tables (get (codes "session") document) 
 abbrev pub sessions_of : Data → List Data
 sessions_of document = unwrap_or (sessions_at document) []
 
+-- the rules of the sessions of a document with these interfaces
+abbrev pub sessions_rules : List Data → Data → List Rule
+sessions_rules interfaces document =
+    rule kind.Sessions 0 (is_some (sessions_at document))
+    ∷ rule kind.TooManySessions 0 (nat_le (length (sessions_of document)) 128)
+    ∷ each (λ before. session_rules interfaces (length before)) [] (sessions_of document)
+
+-- the rules of the interfaces of a document
+abbrev pub interfaces_rules : List Data → List Rule
+interfaces_rules interfaces =
+    rule kind.Interfaces 0 (nat_lt 0 (length interfaces))
+    ∷ rule kind.TooManyInterfaces 0 (nat_le (length interfaces) 64)
+    ∷ each interface_rules [] interfaces
+
 -- the rules of a document in their order
 abbrev pub rules : Data → List Rule
 rules document =
     rule kind.UnknownKey 0 (has_only (keys_at place.Top) document)
-    ∷ rule kind.Interfaces 0 (nat_lt 0 (length (interfaces_of document)))
-    ∷ rule kind.TooManyInterfaces 0 (nat_le (length (interfaces_of document)) 64)
-    ∷ each interface_rules [] (interfaces_of document)
-    ++ rule kind.Sessions 0 (is_some (sessions_at document))
-    ∷ rule kind.TooManySessions 0 (nat_le (length (sessions_of document)) 128)
-    ∷ each (session_rules (interfaces_of document)) [] (sessions_of document)
+    ∷ interfaces_rules (interfaces_of document)
+    ++ sessions_rules (interfaces_of document) document

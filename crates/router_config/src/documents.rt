@@ -1,5 +1,5 @@
 //! A TOML document: a table and a key come in, and what stands there goes out.
-ghost use Rattle.std.specs.Prelude.{◌≡◌, ◌≤◌, ◌^◌, ◌<◌, Some, map, option_map, string_bytes};
+ghost use Rattle.std.specs.Prelude.{◌≡◌, ◌≤◌, ◌^◌, ◌<◌, IfSome, Some, map, option_map, string_bytes};
 ghost use Rattle.std.specs.BTreeMap.{keys};
 ghost use Rattle.std.specs.List.{list_all};
 ghost use Rattle.toml.specs.View.{view};
@@ -57,7 +57,7 @@ pub(crate) fn tables_at<'a>(place: &'a Value, key: &str) -> Option<&'a [Value]>
     }
 }
 
-fn as_tables(value: &Value) -> Option<&[Value]>
+pub(crate) fn as_tables(value: &Value) -> Option<&[Value]>
     ensures { option_map (λ tables. map view tables.now) result ≡ as_tables (view value.now) }
 {
     let Value::Array(array) = value else {
@@ -78,7 +78,8 @@ fn are_tables(values: &[Value]) -> bool
 /// The whole number at a key. None where the key is missing, or holds no whole number from `low` to
 /// `high`.
 pub(crate) fn number_at(place: &Value, key: &str, low: u32, high: u32) -> Option<u32>
-    ensures { result ≡ number_at key.now low high (view place.now) }
+    ensures value { result ≡ number_at key.now low high (view place.now) }
+    ensures within { IfSome result (λ number. (low ≤ number) × (number ≤ high)) }
 {
     match place.get(key) {
         Some(value) => as_number(value, low, high),
@@ -87,7 +88,8 @@ pub(crate) fn number_at(place: &Value, key: &str, low: u32, high: u32) -> Option
 }
 
 pub(crate) fn as_number(value: &Value, low: u32, high: u32) -> Option<u32>
-    ensures { result ≡ as_number low high (view value.now) }
+    ensures value { result ≡ as_number low high (view value.now) }
+    ensures within { IfSome result (λ number. (low ≤ number) × (number ≤ high)) }
 {
     let Value::Integer(number) = value else {
         return None;

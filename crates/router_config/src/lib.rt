@@ -6,8 +6,11 @@ mod config;
 mod documents;
 mod edits;
 mod faults;
+mod interfaces;
 mod kinds;
 mod names;
+mod rules;
+mod sessions;
 
 pub use config::Config;
 pub use edits::{Edit, apply_edit};

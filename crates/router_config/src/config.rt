@@ -25,6 +25,13 @@ impl Model for Config {
 }
 
 impl Config {
+    /// The configuration with these interfaces and sessions.
+    pub(crate) fn new(kinds: Kinds, sessions: Vec<SessionConfig>) -> Config
+        ensures { result ≡ record { interfaces = kinds; sessions = sessions.items } }
+    {
+        Config { kinds, sessions }
+    }
+
     /// The kind of an interface. None where it is not configured.
     pub fn kind(&self, id: IfaceId) -> Option<Kind>
         ensures { result ≡ kind_in self.now.interfaces id }

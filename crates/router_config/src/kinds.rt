@@ -1,7 +1,7 @@
 //! The interfaces of a router: a list of their numbers and kinds, that is looked up, compared and
 //! copied.
 ghost use Rattle.std.specs.Prelude.{◌≡◌, ◌↔◌, [], ◌∷◌, ◌++◌, IfOk, OnErr, OnOk, IsTrue, length};
-ghost use Rattle.router_config.specs.Kinds.{IsAscending, kind_in};
+ghost use Rattle.router_config.specs.Kinds.{AllBelow, IsAscending, kind_in};
 ghost use Rattle.router_config.specs.Edits.{edited, edited_row};
 
 use crate::edits::Edit;
@@ -29,6 +29,27 @@ impl Model for Kinds {
 }
 
 impl Kinds {
+    /// The list of no interface.
+    pub(crate) fn new(alloc: Global) -> Kinds
+        ensures { result ≡ [] }
+    {
+        Kinds {
+            rows: Vec::new(alloc),
+        }
+    }
+
+    /// Puts an interface at the end, whose number is greater than all others.
+    pub(crate) fn push(&mut self, id: IfaceId, kind: Kind) -> Result<(), OutOfMemory>
+        requires { AllBelow self.old id }
+        ensures ok { OnOk result (self.new ≡ self.old ++ (id, kind) ∷ []) }
+        ensures err { OnErr result (self.new ≡ self.old) }
+    {
+        let Ok(()) = self.rows.push((id, kind)) else {
+            return Err(OutOfMemory);
+        };
+        Ok(())
+    }
+
     /// How many interfaces there are.
     pub fn len(&self) -> usize
         ensures { result ≡ length self.now }

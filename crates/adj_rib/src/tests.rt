@@ -97,7 +97,10 @@ fn a_copy_is_told_apart_once_it_changes(rt: HostRuntime) -> Result<(), Fail> {
     copy.remove(&prefix(0, 0)?);
     let mut both = rib.beside(&copy);
     assert_eq!(rt; both.next(), Some((prefix(0, 0)?, (Some(None), None))));
-    assert_eq!(rt; both.next(), Some((prefix(NET, 24)?, (Some(Some(64500)), Some(None)))));
+    assert_eq!(rt;
+        both.next(),
+        Some((prefix(NET, 24)?, (Some(Some(64500)), Some(None))))
+    );
     let mut pairs = copy.pairs();
     assert_eq!(rt; pairs.next(), Some((prefix(NET, 24)?, None)));
     Ok(())

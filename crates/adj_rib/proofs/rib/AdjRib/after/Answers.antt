@@ -8,7 +8,7 @@ use Rattle.adj_rib.proofs.rib.AdjRib.after.Goals as goal
 given : (c : goal.After-next) → IfSome c.next.result (IsNext (option_copied c.args.prefix) c.args.self.now)
 given c =
     next_is (option_copied c.args.prefix) c.args.self.now c.next.result c.pairs_after.result c.next.new.self
-      (c.pairs_after.ensures.list ∙ ap (pairs_after (option_copied c.args.prefix)) c.self.view_is) c.next.ensures.steps
+    (c.pairs_after.ensures.list ∙ ap (pairs_after (option_copied c.args.prefix)) c.self.view_is) c.next.ensures.steps
 
 pub returns-clause-held : goal.returns-clause-held
 returns-clause-held c = if_some c.next.result (given c) (λ r is. is.held)

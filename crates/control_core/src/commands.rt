@@ -9,7 +9,7 @@ ghost use Rattle.control_core.specs.Controls.{IsOpened, KeepsPublished, Publishe
 ghost use Rattle.control_core.specs.Pulls.{Pull};
 
 use crate::control::Control;
-use crate::differences::{came_or_went, copied};
+use crate::differences::came_or_went;
 use crate::limits::{ITEM_LIMIT, Limits, OCTET_LIMIT, RunFault};
 use crate::peering::Peering;
 use crate::pulling::pull_items;
@@ -89,7 +89,7 @@ impl Control {
         if self.exhausted {
             return Err(OutOfMemory);
         }
-        let Ok(next) = copied(self.alloc, &self.peering.rib) else {
+        let Ok(next) = self.peering.rib.copied() else {
             self.exhausted = true;
             return Err(OutOfMemory);
         };

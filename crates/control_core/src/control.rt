@@ -21,7 +21,7 @@ pub struct Control {
 impl Model for Control {
     ghost use Rattle.std.specs.Coded.{codes};
     ghost use Rattle.std.specs.Prelude.{◌≤◌};
-    ghost use Rattle.adj_rib.specs.Stored.{routes_code};
+    ghost use Rattle.adj_rib.specs.Routes.{routes_code};
     ghost use Rattle.control_core.specs.Peers.{peer_of};
     ghost use Rattle.control_core.specs.States.{ControlState};
 

@@ -5,21 +5,6 @@ ghost use Rattle.adj_rib.specs.Routes.{Routes, pairs_after, prefixes_of, routes_
 ghost use Rattle.control_core.specs.Differences.{IsDifference, missing};
 
 use adj_rib::AdjRib;
-use std::alloc::Global;
-use urpf_base::OutOfMemory;
-
-/// A table with the same routes.
-pub fn copied(alloc: Global, rib: &AdjRib) -> Result<AdjRib, OutOfMemory>
-    ensures { IfOk result (λ copy. copy ≡ rib.now) }
-{
-    let mut copy = AdjRib::new(alloc);
-    let mut last = None;
-    while let Some((prefix, origin)) = rib.after(last.as_ref()) {
-        copy.set(prefix, origin)?;
-        last = Some(prefix);
-    }
-    Ok(copy)
-}
 
 /// How many prefixes are in one of both tables and not in the other.
 pub fn came_or_went(old: &AdjRib, new: &AdjRib) -> u64

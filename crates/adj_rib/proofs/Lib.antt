@@ -1,5 +1,1 @@
-pub mod Order
-pub mod Sorted
-pub mod Viewed
-pub mod Walk
 pub mod Routes

@@ -1,73 +1,72 @@
--- What holds of all routes.
-use Rattle.std.proofs.Common.{◌≡◌, ℕ, Bool, true, false, T, List, [], ◌∷◌, map, Option, Some, None, refl, sym, ap, subst, ◌∙◌, ◌↔◌}
-use Rattle.std.specs.Option.{IsSome}
-use Rattle.std.specs.List.{filter}
-use Rattle.std.specs.declared.cmp.Ordering.TheVariants.{Less}
-use Rattle.std.specs.FinMap.{entries_sorted, get-entries, is_sorted, same_map}
+-- What holds of all routes, as it does of every map by prefix.
+use Rattle.std.proofs.Common.{◌≡◌, ℕ, true, [], ◌∷◌, List, map, Option, Some, None, sym, ap, ◌∙◌, ◌↔◌}
+use Rattle.std.specs.Iterator.{YieldsFirst}
+use Rattle.std.specs.Option.{IsSome, IfSome}
+use Rattle.std.specs.FinMap.{empty, insert, remove}
 use Rattle.urpf_base.specs.Address.{Block}
 use Rattle.urpf_base.specs.Lists.{Has, AreDistinct}
-use Rattle.urpf_base.specs.Order.{prefix_order}
-use Rattle.adj_rib.specs.Order.{is_after, IsAscending}
-use Rattle.adj_rib.specs.Routes.{Routes, routes_at, prefixes_of, pairs_of, pairs_after}
-use Rattle.adj_rib.proofs.Walk.{Pair, walk, first_has}
-use Rattle.adj_rib.proofs.Order.{prefix_total, prefix_ties}
-use Rattle.adj_rib.proofs.Sorted.{distinct, found, only_found, pair_found, only_pair, all_at, head_below, tail_sorted}
-
-holds : (b : Bool) → T b → b ≡ true
-holds true h = refl
-holds false h = absurd h
-
-ascending : (routes : Routes) → is_sorted prefix_order (pairs_of routes) ≡ true
-ascending routes = holds _ (entries_sorted routes)
+use Rattle.prefix_map.specs.Order.{is_after, IsAscending}
+use Rattle.prefix_map.proofs.Held as held
+use Rattle.prefix_map.proofs.Seen.{after-none, entries_ascend}
+use Rattle.prefix_map.proofs.Walk.{walk, first_has}
+use Rattle.adj_rib.specs.Routes.{ChangesAt, Routes, routes_at, prefixes_of, pairs_of, pairs_after}
 
 -- each prefix stands once in the list
 pub is_distinct : (routes : Routes) → AreDistinct (prefixes_of routes)
-is_distinct routes = distinct prefix_total (pairs_of routes) (ascending routes)
+is_distinct routes = held.is_distinct routes
 
 -- the list has the prefixes that have an origin
 pub has_held : (routes : Routes) (p : Block) → Has (prefixes_of routes) p ↔ IsSome (routes_at routes p)
-has_held routes p = (
-  λ h. subst IsSome (sym (get-entries routes p)) (found prefix_total (pairs_of routes) p h),
-  λ h. only_found prefix_total prefix_ties (pairs_of routes) p (subst IsSome (get-entries routes p) h),
-)
-
--- after the first of the pairs after a prefix come those after its own prefix
-pub pairs_after-first : (start : Option Block) (routes : Routes) (r : Pair) (t : List Pair) → pairs_after start routes ≡ r ∷ t
-    → pairs_after start routes ≡ r ∷ pairs_after (Some r.0) routes
-pairs_after-first start routes r t is = is ∙ ap (λ l. r ∷ l) (sym (walk start (pairs_of routes) r t (ascending routes) is))
+has_held routes p = held.has_held routes p
 
 -- the pairs are what the map has
 pub has_pair : (routes : Routes) (p : Block) (o : Option ℕ) → Has (pairs_of routes) (p, o) ↔ (routes_at routes p ≡ Some o)
-has_pair routes p o = (
-  λ h. get-entries routes p ∙ pair_found prefix_total (pairs_of routes) p o (ascending routes) h,
-  λ h. only_pair prefix_total prefix_ties (pairs_of routes) p o (sym (get-entries routes p) ∙ h),
-)
+has_pair routes p o = held.has_pair routes p o
 
 -- routes that have the same at each prefix are the same
 pub same_routes : (a b : Routes) → ((p : Block) → routes_at a p ≡ routes_at b p) → a ≡ b
-same_routes a b h = same_map prefix_total prefix_ties a b h
-
-ascends : (es : List Pair) → is_sorted prefix_order es ≡ true → IsAscending (map (λ e. e.0) es)
-ascends [] h = tt
-ascends (e ∷ es) h = (
-  λ q later. all_at (λ k. prefix_order e.0 k ≡ Less) es q (head_below prefix_order e es h) later,
-  ascends es (tail_sorted prefix_order e es h),
-)
+same_routes a b h = held.same_held a b h
 
 pub is_ascending : (routes : Routes) → IsAscending (prefixes_of routes)
-is_ascending routes = ascends (pairs_of routes) (ascending routes)
-
-every : (es : List Pair) → filter (λ _. true) es ≡ es
-every [] = refl
-every (e ∷ es) = ap (λ l. e ∷ l) (every es)
+is_ascending routes = held.is_ascending routes
 
 -- where no start is given, all pairs come after it
 pub pairs_after-none : (routes : Routes) → pairs_after None routes ≡ pairs_of routes
-pairs_after-none routes = every (pairs_of routes)
+pairs_after-none routes = after-none routes
 
--- the first of the pairs after a prefix is of the map, and comes after the prefix
-pub pairs_after-held : (start : Option Block) (routes : Routes) (r : Pair) (t : List Pair) → pairs_after start routes ≡ r ∷ t → routes_at routes r.0 ≡ Some r.1
-pairs_after-held start routes r t is = (has_pair routes r.0 r.1).0 (first_has start (pairs_of routes) r t is).0
+-- no routes
+pub no_prefixes : (routes : Routes) → routes ≡ empty → prefixes_of routes ≡ []
+no_prefixes routes is = ap (map (λ e. e.0)) (held.no_entries routes is)
 
-pub pairs_after-above : (start : Option Block) (routes : Routes) (r : Pair) (t : List Pair) → pairs_after start routes ≡ r ∷ t → is_after start r.0 ≡ true
-pairs_after-above start routes r t is = (first_has start (pairs_of routes) r t is).1
+-- a pair was put in, or taken out
+pub set_changes : (inside old new : Routes) (p : Block) (o : Option ℕ) → inside ≡ old → new ≡ insert inside p o → ChangesAt p (Some o) old new
+set_changes inside old new p o view is =
+    let put : new ≡ insert old p o = is ∙ ap (λ m. insert m p o) view in
+    record { here = held.set_here old new p o put; others = held.set_others old new p o put }
+
+pub gone_changes : (inside old new : Routes) (p : Block) → inside ≡ old → new ≡ remove inside p → ChangesAt p None old new
+gone_changes inside old new p view is =
+    let taken : new ≡ remove old p = is ∙ ap (λ m. remove m p) view in
+    record { here = held.gone_here old new p taken; others = held.gone_others old new p taken }
+
+-- the first of the pairs after a prefix is of the map, comes after the prefix, and behind it come those after its own prefix
+pub record IsNext (start : Option Block) (routes : Routes) (r : Block × Option ℕ) : Type 0 where
+  pub held : routes_at routes r.0 ≡ Some r.1
+  pub above : is_after start r.0 ≡ true
+  pub first : pairs_after start routes ≡ r ∷ pairs_after (Some r.0) routes
+
+pub next_is : (start : Option Block) (routes : Routes) (r : Option (Block × Option ℕ)) (all later : List (Block × Option ℕ)) → all ≡ pairs_after start routes → YieldsFirst (λ s. s) all r later
+    → IfSome r (IsNext start routes)
+next_is start routes None all later is step = tt
+next_is start routes (Some r) all later is step =
+    let list : pairs_after start routes ≡ r ∷ later = sym is ∙ step in
+    let there : Has (pairs_of routes) r × (is_after start r.0 ≡ true) = first_has start (pairs_of routes) r later list in
+    record {
+      held = (has_pair routes r.0 r.1).0 there.0;
+      above = there.1;
+      first = list ∙ ap (λ l. r ∷ l) (sym (walk start (pairs_of routes) r later (entries_ascend routes) list));
+    }
+
+pub if_some : {X : Type 0} {P Q : X → Type 0} (r : Option X) → IfSome r P → ((x : X) → P x → Q x) → IfSome r Q
+if_some None h f = h
+if_some (Some x) h f = f x h

@@ -1,14 +1,18 @@
 -- The routes of a session, as a finite map from prefixes to origins (RFC 4271, section 3.2: Adj-RIB-In).
 use Rattle.std.specs.Prelude.{◌≡◌, ℕ, List, Option}
-use Rattle.std.specs.FinMap.{FinMap, get, entries, keys}
-use Rattle.std.specs.List.{filter}
+use Rattle.std.specs.Coded.{Coded, coded_ℕ, coded_option}
+use Rattle.std.specs.FinMap.{get, entries, keys}
 use Rattle.urpf_base.specs.Address.{Block}
-use Rattle.urpf_base.specs.Order.{prefix_order}
-use Rattle.adj_rib.specs.Order.{is_after}
+use Rattle.prefix_map.specs.Kept.{map_code}
+use Rattle.prefix_map.specs.Mapped.{Mapped, entries_after}
 
 -- an origin for each of finitely many prefixes; the origin is an AS or none
 abbrev pub Routes : Type 0
-Routes = FinMap prefix_order (Option ℕ)
+Routes = Mapped (Option ℕ)
+
+-- how routes are told apart
+abbrev pub routes_code : Coded Routes
+routes_code = map_code (coded_option coded_ℕ)
 
 -- the origin that the routes have at a prefix, and none where they do not have the prefix
 abbrev pub routes_at : Routes → Block → Option (Option ℕ)
@@ -24,7 +28,7 @@ prefixes_of routes = keys routes
 
 -- the pairs whose prefix comes after the start, in the order of the prefixes
 abbrev pub pairs_after : Option Block → Routes → List (Block × Option ℕ)
-pairs_after start routes = filter (λ e. is_after start e.0) (pairs_of routes)
+pairs_after start routes = entries_after start routes
 
 -- a prefix has this now, or is not there, and each other prefix has what it had
 pub record ChangesAt (prefix : Block) (value : Option (Option ℕ)) (old new : Routes) : Type 0 where

@@ -2,7 +2,7 @@
 ghost use Rattle.std.specs.Prelude.{◌≡◌, ◌↔◌, ℕ, Option, Some, None, IsSome};
 ghost use Rattle.urpf_base.specs.Address.{Block};
 ghost use Rattle.urpf_base.specs.Lists.{AreDistinct, Has};
-ghost use Rattle.adj_rib.specs.Order.{IsAscending};
+ghost use Rattle.prefix_map.specs.Order.{IsAscending};
 ghost use Rattle.adj_rib.specs.Routes.{Routes, pairs_after, pairs_of, prefixes_of, routes_at};
 
 /// That the lists of prefixes and of pairs have what the map has, each prefix once, and that routes

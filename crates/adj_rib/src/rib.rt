@@ -1,40 +1,33 @@
 //! The routes of one session, by prefix: routes are put in and taken out one by one, and what is
-//! asked of them goes out: the origin of a prefix, the next prefix in their order, whether any
-//! covers an address.
-ghost use Rattle.std.specs.Prelude.{◌≡◌, ◌↔◌, [], ◌∷◌, length, IsTrue, IfSome, IfNone, IfOk, OnOk, OnErr, Some, None, option_copied, ◌<◌, ◌^◌};
-ghost use Rattle.std.specs.BTreeMap.Range.{is_from_start};
+//! asked of them goes out: the origin of a prefix, the pairs in their order, those of two ribs side
+//! by side, whether any prefix covers an address.
+ghost use Rattle.std.specs.Prelude.{◌≡◌, ◌↔◌, [], ◌∷◌, length, IsTrue, IsSome, IfSome, IfNone, IfOk, OnOk, OnErr, Some, None, option_copied, ◌<◌, ◌^◌};
 ghost use Rattle.urpf_base.specs.Address.{Block, Covers};
 ghost use Rattle.urpf_base.specs.Lists.{Has};
-ghost use Rattle.urpf_base.specs.Order.{prefix_order};
-ghost use Rattle.adj_rib.specs.Order.{is_after};
-ghost use Rattle.adj_rib.specs.Routes.{ChangesAt, pairs_after, prefixes_of, routes_at};
+ghost use Rattle.prefix_map.specs.Beside.{beside};
+ghost use Rattle.prefix_map.specs.Order.{is_after};
+ghost use Rattle.adj_rib.specs.Routes.{ChangesAt, pairs_after, pairs_of, prefixes_of, routes_at};
 
+use prefix_map::{Beside, Pairs, PrefixMap};
 use std::alloc::Global;
-use std::collections::BTreeMap;
-use std::marker::Model;
-use std::ops::Bound;
-use urpf_base::{Addr, Origin, OutOfMemory, Prefix};
+use std::marker::{Brand, Model};
+use std::sync::ledger::{Blank, Ledger};
+use urpf_base::{Addr, Origin, OutOfMemory, Prefix, Steps};
 
 /// The origin of each prefix that a session has announced and not withdrawn.
 #[derive(Drop)]
 pub struct AdjRib {
-    routes: BTreeMap<Prefix, Origin>,
+    routes: PrefixMap<Origin>,
 }
 
 impl Model for AdjRib {
-    ghost use Rattle.std.specs.Prelude.{IsTrue};
-    ghost use Rattle.std.specs.FinMap.{from_sorted, is_sorted};
-    ghost use Rattle.urpf_base.specs.Order.{prefix_order};
-    ghost use Rattle.adj_rib.specs.Routes.{Routes};
-    ghost use Rattle.adj_rib.specs.Stored.{routes_code};
+    ghost use Rattle.adj_rib.specs.Routes.{Routes, routes_code};
 
     ghost Value = { Routes };
 
     ghost coded = { routes_code };
 
-    ghost view = { λ r. from_sorted r.routes.entries };
-
-    ghost invariant = { λ r. IsTrue (is_sorted prefix_order r.routes.entries) };
+    ghost view = { λ r. r.routes };
 }
 
 impl AdjRib {
@@ -44,7 +37,7 @@ impl AdjRib {
         ensures none { (p : Block) → routes_at result p ≡ None }
     {
         AdjRib {
-            routes: BTreeMap::new(alloc),
+            routes: PrefixMap::new(alloc),
         }
     }
 
@@ -54,10 +47,16 @@ impl AdjRib {
         ensures ok { OnOk result (ChangesAt prefix (Some origin) self.old self.new) }
         ensures err { OnErr result (self.new ≡ self.old) }
     {
-        let Ok(old) = self.routes.insert(prefix, origin) else {
-            return Err(OutOfMemory);
-        };
-        Ok(old)
+        self.routes.set(&prefix, origin)
+    }
+
+    /// Gives a prefix that is there another origin, and answers the old one. Takes no memory.
+    pub fn replace(&mut self, prefix: &Prefix, origin: Origin) -> Origin
+        requires { IsSome (routes_at self.old prefix.now) }
+        ensures old { routes_at self.old prefix.now ≡ Some result }
+        ensures new { ChangesAt prefix.now (Some origin) self.old self.new }
+    {
+        self.routes.replace(prefix, origin)
     }
 
     /// Takes the prefix out, and answers the origin that it had: None where it was not there.
@@ -72,7 +71,7 @@ impl AdjRib {
     pub fn get(&self, prefix: &Prefix) -> Option<Origin>
         ensures { result ≡ routes_at self.now prefix.now }
     {
-        self.routes.get(prefix).copied()
+        self.routes.get(prefix)
     }
 
     /// Takes all routes out.
@@ -100,33 +99,50 @@ impl AdjRib {
             ≡ r ∷ pairs_after (Some r.0) self.now) }
         ensures end { IfNone result (pairs_after (option_copied prefix.entry) self.now ≡ []) }
     {
-        let mut pairs = self.routes.range((start_of(prefix), Bound::Unbounded));
-        let Some(pair) = pairs.next() else {
-            return None;
+        self.routes.pairs_after(prefix).next()
+    }
+
+    /// The pairs of prefix and origin, in the order of the prefixes.
+    pub fn pairs(&self) -> Pairs<'_, Origin>
+        ensures list { result ≡ pairs_of self.now }
+        ensures small { length result < 2 ^ 63 }
+    {
+        self.routes.pairs()
+    }
+
+    /// The prefixes of this rib and of the other, in their order, each with what the one and what
+    /// the other has there.
+    pub fn beside<'a>(&'a self, other: &'a AdjRib) -> Beside<'a, Origin, Origin>
+        ensures { result ≡ beside (pairs_of self.now) (pairs_of other.now) }
+    {
+        Beside::over(&self.routes, &other.routes)
+    }
+
+    /// Another rib with the same routes.
+    pub fn copied(&self) -> Result<AdjRib, OutOfMemory>
+        ensures { IfOk result (λ copy. copy ≡ self.now) }
+    {
+        let Ok(routes) = self.routes.copied() else {
+            return Err(OutOfMemory);
         };
-        Some((*pair.0, *pair.1))
+        Ok(AdjRib { routes })
     }
 
     /// Whether a prefix that is there covers the address.
     pub fn any_covers(&self, addr: &Addr) -> bool
         ensures { IsTrue result ↔ ((p : Block) × Has (prefixes_of self.now) p × Covers p addr.now) }
     {
-        for prefix in self.routes.keys() {
-            if prefix.covers(addr) {
-                return true;
-            }
-        }
-        false
+        covers_counted::<Brand>(&self.routes, addr, Blank::new(1))
     }
 }
 
-/// Where the keys after the prefix start, or all keys where none is given.
-fn start_of(prefix: Option<&Prefix>) -> Bound<Prefix>
-    ensures { (p : Block)
-        → is_from_start prefix_order result p ≡ is_after (option_copied prefix.entry) p }
+/// Whether a prefix of the map covers the address, with its steps counted from none on.
+fn covers_counted<L: Ledger>(routes: &PrefixMap<Origin>, addr: &Addr, blank: Blank) -> bool
+    requires name { blank.name ≡ L.name }
+    requires parts { blank.parts ≡ L.parts }
+    requires some { 0 < blank.parts }
+    ensures { IsTrue result ↔ ((p : Block) × Has (prefixes_of routes.now) p × Covers p addr.now) }
 {
-    match prefix {
-        Some(prefix) => Bound::Excluded(*prefix),
-        None => Bound::Unbounded,
-    }
+    let mut steps = Steps::<L>::new(blank);
+    routes.any_covers(addr, &mut steps)
 }

@@ -85,3 +85,23 @@ fn an_address_is_covered_by_what_is_there(rt: HostRuntime) -> Result<(), Fail> {
     assert!(rt; !rib.any_covers(&Addr::V6(0)));
     Ok(())
 }
+
+#[test]
+fn a_copy_is_told_apart_once_it_changes(rt: HostRuntime) -> Result<(), Fail> {
+    let rib = three(rt.alloc())?;
+    let mut copy = rib.copied()?;
+    let net = prefix(NET, 24)?;
+    if copy.get(&net).is_some() {
+        assert_eq!(rt; copy.replace(&net, None), Some(64500));
+    }
+    copy.remove(&prefix(0, 0)?);
+    let mut both = rib.beside(&copy);
+    assert_eq!(rt; both.next(), Some((prefix(0, 0)?, (Some(None), None))));
+    assert_eq!(rt;
+        both.next(),
+        Some((prefix(NET, 24)?, (Some(Some(64500)), Some(None))))
+    );
+    let mut pairs = copy.pairs();
+    assert_eq!(rt; pairs.next(), Some((prefix(NET, 24)?, None)));
+    Ok(())
+}

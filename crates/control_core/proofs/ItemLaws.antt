@@ -8,7 +8,7 @@ use Rattle.bgp_wire.specs.Frames.{IsMessage, Framing, End, Clean, Fault, EndsAs,
 use Rattle.bgp_wire.proofs.Headers.{header_fault-append}
 use Rattle.bgp_wire.proofs.Framings.{has_framing, one_framing}
 use Rattle.feed_io.specs.Events.{Event, up, octets, down, elapsed}
-use Rattle.control_core.specs.Items.{Item, came_up, message, bad_header, went_down, passed, Stretch, stretch_after, stretch_at_end, end_items, AreItemsOf, BringsItems, Brings, AreItemsAfter, AreItems, left_behind, LeavesOctets, IsRest, spread, SameButCuts}
+use Rattle.control_core.specs.Items.{Item, came_up, message, bad_header, went_down, passed, Connection, connection_after, connection_at_end, end_items, AreItemsOf, BringsItems, Brings, AreItemsAfter, AreItems, left_behind, LeavesOctets, IsRest, spread, SameButCuts}
 
 -- the items of a text
 pub needed : List ℕ → List Item
@@ -89,24 +89,24 @@ pub needed_more : (text piece : List ℕ) → (more : List Item) × (needed (tex
 needed_more text piece = more_by_end text piece (has_framing text) (has_framing text).end (has_framing text).framed.ends refl
 
 -- the items that stand at one event
-unfoldable pub brought : Stretch → Event → List Item
-brought stretch up = came_up ∷ []
+unfoldable pub brought : Connection → Event → List Item
+brought connection up = came_up ∷ []
 brought None (octets piece) = []
 brought (Some text) (octets piece) = (needed_more text piece).0
-brought stretch down = went_down ∷ []
-brought stretch (elapsed seconds) = passed seconds ∷ []
+brought connection down = went_down ∷ []
+brought connection (elapsed seconds) = passed seconds ∷ []
 
-pub brought_is : (stretch : Stretch) (event : Event) → Brings stretch event (brought stretch event)
+pub brought_is : (connection : Connection) (event : Event) → Brings connection event (brought connection event)
 unfolding brought
-brought_is stretch up = refl
+brought_is connection up = refl
 brought_is None (octets piece) = refl
 brought_is (Some text) (octets piece) = record {
   before = needed text;
   without = needed_is text;
   with_it = subst (AreItemsOf (text ++ piece)) (needed_more text piece).1 (needed_is (text ++ piece));
 }
-brought_is stretch down = refl
-brought_is stretch (elapsed seconds) = refl
+brought_is connection down = refl
+brought_is connection (elapsed seconds) = refl
 
 brought_by : (text piece : List ℕ) (items : List Item) → BringsItems text piece items → items ≡ (needed_more text piece).0
 brought_by text piece items brings =
@@ -114,41 +114,41 @@ brought_by text piece items brings =
     let both : brings.before ++ items ≡ needed text ++ (needed_more text piece).0 = needed_only (text ++ piece) (brings.before ++ items) brings.with_it ∙ (needed_more text piece).1 in
     append_cancel_left (needed text) items (needed_more text piece).0 (ap (λ (xs : List Item). xs ++ items) (sym first) ∙ both)
 
-pub brought_only : (stretch : Stretch) (event : Event) (items : List Item) → Brings stretch event items → items ≡ brought stretch event
+pub brought_only : (connection : Connection) (event : Event) (items : List Item) → Brings connection event items → items ≡ brought connection event
 unfolding brought
-brought_only stretch up items is = is
+brought_only connection up items is = is
 brought_only None (octets piece) items is = is
 brought_only (Some text) (octets piece) items brings = brought_by text piece items brings
-brought_only stretch down items is = is
-brought_only stretch (elapsed seconds) items is = is
+brought_only connection down items is = is
+brought_only connection (elapsed seconds) items is = is
 
--- the items of events behind a stretch
-unfoldable pub items_after : Stretch → List Event → List Item
-items_after stretch [] = []
-items_after stretch (event ∷ events) = brought stretch event ++ items_after (stretch_after stretch event) events
+-- the items of events behind a connection
+unfoldable pub items_after : Connection → List Event → List Item
+items_after connection [] = []
+items_after connection (event ∷ events) = brought connection event ++ items_after (connection_after connection event) events
 
-pub are_items : (stretch : Stretch) (events : List Event) → AreItemsAfter stretch events (items_after stretch events)
+pub are_items : (connection : Connection) (events : List Event) → AreItemsAfter connection events (items_after connection events)
 unfolding items_after
-are_items stretch [] = refl
-are_items stretch (event ∷ events) = (brought stretch event, items_after (stretch_after stretch event) events, refl, brought_is stretch event, are_items (stretch_after stretch event) events)
+are_items connection [] = refl
+are_items connection (event ∷ events) = (brought connection event, items_after (connection_after connection event) events, refl, brought_is connection event, are_items (connection_after connection event) events)
 
-pub only_items : (stretch : Stretch) (events : List Event) (items : List Item) → AreItemsAfter stretch events items → items ≡ items_after stretch events
+pub only_items : (connection : Connection) (events : List Event) (items : List Item) → AreItemsAfter connection events items → items ≡ items_after connection events
 unfolding items_after
-only_items stretch [] items is = is
-only_items stretch (event ∷ events) items is =
-    is.2 ∙ ap (λ (xs : List Item). xs ++ is.1) (brought_only stretch event is.0 is.3) ∙ ap (λ (xs : List Item). brought stretch event ++ xs) (only_items (stretch_after stretch event) events is.1 is.4)
+only_items connection [] items is = is
+only_items connection (event ∷ events) items is =
+    is.2 ∙ ap (λ (xs : List Item). xs ++ is.1) (brought_only connection event is.0 is.3) ∙ ap (λ (xs : List Item). brought connection event ++ xs) (only_items (connection_after connection event) events is.1 is.4)
 
 -- events one after the other
-pub stretch_at_end-append : (stretch : Stretch) (events later : List Event) → stretch_at_end stretch (events ++ later) ≡ stretch_at_end (stretch_at_end stretch events) later
-stretch_at_end-append stretch [] later = refl
-stretch_at_end-append stretch (event ∷ events) later = stretch_at_end-append (stretch_after stretch event) events later
+pub connection_at_end-append : (connection : Connection) (events later : List Event) → connection_at_end connection (events ++ later) ≡ connection_at_end (connection_at_end connection events) later
+connection_at_end-append connection [] later = refl
+connection_at_end-append connection (event ∷ events) later = connection_at_end-append (connection_after connection event) events later
 
-pub items_after-append : (stretch : Stretch) (events later : List Event) → items_after stretch (events ++ later) ≡ items_after stretch events ++ items_after (stretch_at_end stretch events) later
+pub items_after-append : (connection : Connection) (events later : List Event) → items_after connection (events ++ later) ≡ items_after connection events ++ items_after (connection_at_end connection events) later
 unfolding items_after
-items_after-append stretch [] later = refl
-items_after-append stretch (event ∷ events) later =
-    ap (λ (xs : List Item). brought stretch event ++ xs) (items_after-append (stretch_after stretch event) events later)
-    ∙ sym (append_assoc (brought stretch event) (items_after (stretch_after stretch event) events) (items_after (stretch_at_end stretch (event ∷ events)) later))
+items_after-append connection [] later = refl
+items_after-append connection (event ∷ events) later =
+    ap (λ (xs : List Item). brought connection event ++ xs) (items_after-append (connection_after connection event) events later)
+    ∙ sym (append_assoc (brought connection event) (items_after (connection_after connection event) events) (items_after (connection_at_end connection (event ∷ events)) later))
 
 -- a piece cut into two brings in two what it brings in one
 brought_cut : (text first second : List ℕ) → (needed_more text (first ++ second)).0 ≡ (needed_more text first).0 ++ (needed_more (text ++ first) second).0
@@ -159,66 +159,66 @@ brought_cut text first second =
     append_cancel_left (needed text) all.0 (one.0 ++ two.0)
     (sym all.1 ∙ ap needed (sym (append_assoc text first second)) ∙ two.1 ∙ ap (λ (xs : List Item). xs ++ two.0) one.1 ∙ append_assoc (needed text) one.0 two.0)
 
-pub brought-cut : (stretch : Stretch) (first second : List ℕ) → brought stretch (octets (first ++ second)) ≡ brought stretch (octets first) ++ brought (stretch_after stretch (octets first)) (octets second)
+pub brought-cut : (connection : Connection) (first second : List ℕ) → brought connection (octets (first ++ second)) ≡ brought connection (octets first) ++ brought (connection_after connection (octets first)) (octets second)
 unfolding brought
 brought-cut None first second = refl
 brought-cut (Some text) first second = brought_cut text first second
 
-pub stretch_after-cut : (stretch : Stretch) (first second : List ℕ) → stretch_after stretch (octets (first ++ second)) ≡ stretch_after (stretch_after stretch (octets first)) (octets second)
-stretch_after-cut None first second = refl
-stretch_after-cut (Some text) first second = ap (λ t. Some t) (sym (append_assoc text first second))
+pub connection_after-cut : (connection : Connection) (first second : List ℕ) → connection_after connection (octets (first ++ second)) ≡ connection_after (connection_after connection (octets first)) (octets second)
+connection_after-cut None first second = refl
+connection_after-cut (Some text) first second = ap (λ t. Some t) (sym (append_assoc text first second))
 
 brought_by_none : (text : List ℕ) → (needed_more text []).0 ≡ []
 brought_by_none text =
     let more = needed_more text [] in
     append_cancel_left (needed text) more.0 [] (sym more.1 ∙ ap needed (append-nil text) ∙ sym (append-nil (needed text)))
 
-brought-none : (stretch : Stretch) → brought stretch (octets []) ≡ []
+brought-none : (connection : Connection) → brought connection (octets []) ≡ []
 unfolding brought
 brought-none None = refl
 brought-none (Some text) = brought_by_none text
 
-stretch_after-none : (stretch : Stretch) → stretch_after stretch (octets []) ≡ stretch
-stretch_after-none None = refl
-stretch_after-none (Some text) = ap (λ t. Some t) (append-nil text)
+connection_after-none : (connection : Connection) → connection_after connection (octets []) ≡ connection
+connection_after-none None = refl
+connection_after-none (Some text) = ap (λ t. Some t) (append-nil text)
 
 -- octets each in an event of its own
 abbrev singles : List ℕ → List Event
 singles piece = map (λ octet. octets (octet ∷ [])) piece
 
-spread_piece : (stretch : Stretch) (piece : List ℕ) (later : List Event) → items_after stretch (singles piece ++ later) ≡ brought stretch (octets piece) ++ items_after (stretch_after stretch (octets piece)) later
+spread_piece : (connection : Connection) (piece : List ℕ) (later : List Event) → items_after connection (singles piece ++ later) ≡ brought connection (octets piece) ++ items_after (connection_after connection (octets piece)) later
 unfolding items_after
-spread_piece stretch [] later =
-    ap (λ (s : Stretch). items_after s later) (sym (stretch_after-none stretch)) ∙ ap (λ (xs : List Item). xs ++ items_after (stretch_after stretch (octets [])) later) (sym (brought-none stretch))
-spread_piece stretch (b ∷ bs) later =
-    let next = stretch_after stretch (octets (b ∷ [])) in
-    ap (λ (xs : List Item). brought stretch (octets (b ∷ [])) ++ xs) (spread_piece next bs later)
-    ∙ sym (append_assoc (brought stretch (octets (b ∷ []))) (brought next (octets bs)) (items_after (stretch_after next (octets bs)) later))
-    ∙ ap (λ (xs : List Item). xs ++ items_after (stretch_after next (octets bs)) later) (sym (brought-cut stretch (b ∷ []) bs))
-    ∙ ap (λ (s : Stretch). brought stretch (octets (b ∷ bs)) ++ items_after s later) (sym (stretch_after-cut stretch (b ∷ []) bs))
+spread_piece connection [] later =
+    ap (λ (s : Connection). items_after s later) (sym (connection_after-none connection)) ∙ ap (λ (xs : List Item). xs ++ items_after (connection_after connection (octets [])) later) (sym (brought-none connection))
+spread_piece connection (b ∷ bs) later =
+    let next = connection_after connection (octets (b ∷ [])) in
+    ap (λ (xs : List Item). brought connection (octets (b ∷ [])) ++ xs) (spread_piece next bs later)
+    ∙ sym (append_assoc (brought connection (octets (b ∷ []))) (brought next (octets bs)) (items_after (connection_after next (octets bs)) later))
+    ∙ ap (λ (xs : List Item). xs ++ items_after (connection_after next (octets bs)) later) (sym (brought-cut connection (b ∷ []) bs))
+    ∙ ap (λ (s : Connection). brought connection (octets (b ∷ bs)) ++ items_after s later) (sym (connection_after-cut connection (b ∷ []) bs))
 
 -- the places where octets are cut do not count
-pub items_after-spread : (stretch : Stretch) (events : List Event) → items_after stretch (spread events) ≡ items_after stretch events
+pub items_after-spread : (connection : Connection) (events : List Event) → items_after connection (spread events) ≡ items_after connection events
 unfolding items_after brought
-items_after-spread stretch [] = refl
-items_after-spread stretch (up ∷ events) = ap (λ (xs : List Item). came_up ∷ xs) (items_after-spread (Some []) events)
-items_after-spread stretch (octets piece ∷ events) =
-    spread_piece stretch piece (spread events) ∙ ap (λ (xs : List Item). brought stretch (octets piece) ++ xs) (items_after-spread (stretch_after stretch (octets piece)) events)
-items_after-spread stretch (down ∷ events) = ap (λ (xs : List Item). went_down ∷ xs) (items_after-spread None events)
-items_after-spread stretch (elapsed seconds ∷ events) = ap (λ (xs : List Item). passed seconds ∷ xs) (items_after-spread stretch events)
+items_after-spread connection [] = refl
+items_after-spread connection (up ∷ events) = ap (λ (xs : List Item). came_up ∷ xs) (items_after-spread (Some []) events)
+items_after-spread connection (octets piece ∷ events) =
+    spread_piece connection piece (spread events) ∙ ap (λ (xs : List Item). brought connection (octets piece) ++ xs) (items_after-spread (connection_after connection (octets piece)) events)
+items_after-spread connection (down ∷ events) = ap (λ (xs : List Item). went_down ∷ xs) (items_after-spread None events)
+items_after-spread connection (elapsed seconds ∷ events) = ap (λ (xs : List Item). passed seconds ∷ xs) (items_after-spread connection events)
 
-pub stretch_of_piece : (stretch : Stretch) (piece : List ℕ) (later : List Event) → stretch_at_end stretch (singles piece ++ later) ≡ stretch_at_end (stretch_after stretch (octets piece)) later
-stretch_of_piece stretch [] later = ap (λ (s : Stretch). stretch_at_end s later) (sym (stretch_after-none stretch))
-stretch_of_piece stretch (b ∷ bs) later =
-    stretch_of_piece (stretch_after stretch (octets (b ∷ []))) bs later ∙ ap (λ (s : Stretch). stretch_at_end s later) (sym (stretch_after-cut stretch (b ∷ []) bs))
+pub connection_of_piece : (connection : Connection) (piece : List ℕ) (later : List Event) → connection_at_end connection (singles piece ++ later) ≡ connection_at_end (connection_after connection (octets piece)) later
+connection_of_piece connection [] later = ap (λ (s : Connection). connection_at_end s later) (sym (connection_after-none connection))
+connection_of_piece connection (b ∷ bs) later =
+    connection_of_piece (connection_after connection (octets (b ∷ []))) bs later ∙ ap (λ (s : Connection). connection_at_end s later) (sym (connection_after-cut connection (b ∷ []) bs))
 
-pub stretch_at_end-spread : (stretch : Stretch) (events : List Event) → stretch_at_end stretch (spread events) ≡ stretch_at_end stretch events
-stretch_at_end-spread stretch [] = refl
-stretch_at_end-spread stretch (up ∷ events) = stretch_at_end-spread (Some []) events
-stretch_at_end-spread stretch (octets piece ∷ events) =
-    stretch_of_piece stretch piece (spread events) ∙ stretch_at_end-spread (stretch_after stretch (octets piece)) events
-stretch_at_end-spread stretch (down ∷ events) = stretch_at_end-spread None events
-stretch_at_end-spread stretch (elapsed seconds ∷ events) = stretch_at_end-spread stretch events
+pub connection_at_end-spread : (connection : Connection) (events : List Event) → connection_at_end connection (spread events) ≡ connection_at_end connection events
+connection_at_end-spread connection [] = refl
+connection_at_end-spread connection (up ∷ events) = connection_at_end-spread (Some []) events
+connection_at_end-spread connection (octets piece ∷ events) =
+    connection_of_piece connection piece (spread events) ∙ connection_at_end-spread (connection_after connection (octets piece)) events
+connection_at_end-spread connection (down ∷ events) = connection_at_end-spread None events
+connection_at_end-spread connection (elapsed seconds ∷ events) = connection_at_end-spread connection events
 
 pub spread-append : (events later : List Event) → spread (events ++ later) ≡ spread events ++ spread later
 spread-append [] later = refl
@@ -229,16 +229,16 @@ spread-append (down ∷ events) later = ap (λ (es : List Event). down ∷ es) (
 spread-append (elapsed seconds ∷ events) later = ap (λ (es : List Event). elapsed seconds ∷ es) (spread-append events later)
 
 -- events that differ in cuts alone have the same items
-pub same_items : (stretch : Stretch) (events others : List Event) → SameButCuts events others → items_after stretch events ≡ items_after stretch others
-same_items stretch events others same =
-    sym (items_after-spread stretch events) ∙ ap (items_after stretch) same ∙ items_after-spread stretch others
+pub same_items : (connection : Connection) (events others : List Event) → SameButCuts events others → items_after connection events ≡ items_after connection others
+same_items connection events others same =
+    sym (items_after-spread connection events) ∙ ap (items_after connection) same ∙ items_after-spread connection others
 
-pub same_stretch : (stretch : Stretch) (events others : List Event) → SameButCuts events others → stretch_at_end stretch events ≡ stretch_at_end stretch others
-same_stretch stretch events others same =
-    sym (stretch_at_end-spread stretch events) ∙ ap (stretch_at_end stretch) same ∙ stretch_at_end-spread stretch others
+pub same_connection : (connection : Connection) (events others : List Event) → SameButCuts events others → connection_at_end connection events ≡ connection_at_end connection others
+same_connection connection events others same =
+    sym (connection_at_end-spread connection events) ∙ ap (connection_at_end connection) same ∙ connection_at_end-spread connection others
 
--- what a stretch leaves behind is one number
-pub left_once : (stretch : Stretch) (a b : ℕ) → LeavesOctets stretch a → LeavesOctets stretch b → a ≡ b
+-- what a connection leaves behind is one number
+pub left_once : (connection : Connection) (a b : ℕ) → LeavesOctets connection a → LeavesOctets connection b → a ≡ b
 left_once None a b first second = first ∙ sym second
 left_once (Some text) a b first second =
     let same = one_framing text first.0 second.0 in
@@ -248,8 +248,8 @@ pub items_by_cuts : (events others : List Event) (items : List Item) → SameBut
 items_by_cuts events others items same are =
     subst (AreItems others) (sym (only_items None events items are ∙ same_items None events others same)) (are_items None others)
 
-rest_by_cuts : (events others : List Event) (count : ℕ) → SameButCuts events others → IsRest events count → IsRest others count
-rest_by_cuts events others count same is = subst (λ (s : Stretch). LeavesOctets s count) (same_stretch None events others same) is
+pub rest_by_cuts : (events others : List Event) (count : ℕ) → SameButCuts events others → IsRest events count → IsRest others count
+rest_by_cuts events others count same is = subst (λ (s : Connection). LeavesOctets s count) (same_connection None events others same) is
 
 -- one cut more
 cut_once : (before after : List Event) (first second : List ℕ) → SameButCuts (before ++ octets (first ++ second) ∷ after) (before ++ octets first ∷ octets second ∷ after)
@@ -276,6 +276,13 @@ rest_cut_once before after first second count =
 -- the items of the first events are the first items
 pub front_items : (events later : List Event) (items all : List Item) → AreItems events items → AreItems (events ++ later) all → (more : List Item) × (all ≡ items ++ more)
 front_items events later items all are whole = (
-  items_after (stretch_at_end None events) later,
-  only_items None (events ++ later) all whole ∙ items_after-append None events later ∙ ap (λ (xs : List Item). xs ++ items_after (stretch_at_end None events) later) (sym (only_items None events items are)),
+  items_after (connection_at_end None events) later,
+  only_items None (events ++ later) all whole ∙ items_after-append None events later ∙ ap (λ (xs : List Item). xs ++ items_after (connection_at_end None events) later) (sym (only_items None events items are)),
 )
+
+-- a connection leaves some number of octets
+pub some_rest : (connection : Connection) → (count : ℕ) × LeavesOctets connection count
+some_rest None = (0, refl)
+some_rest (Some text) =
+    let f = has_framing text in
+    (left_behind f.end f.rest, (f, refl))

@@ -1,12 +1,13 @@
 pub mod Counting
+pub mod FaultCounts
 pub mod Held
+pub mod HistoryLaws
 pub mod ItemLaws
+pub mod ItemStepLaws
 pub mod Missing
 pub mod PullLaws
 pub mod Routes
 pub mod RunLaws
 pub mod SomeRun
-pub mod StandingLaws
-pub mod TakingLaws
 pub mod TurnLaws
 pub mod Walks

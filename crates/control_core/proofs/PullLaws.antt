@@ -10,17 +10,16 @@ use Rattle.session_fsm.specs.declared.items.Effect.{Effect}
 use Rattle.report_text.specs.Lines.{end_line}
 use Rattle.control_core.specs.declared.limits.RunFault.{RunFault}
 use Rattle.control_core.specs.declared.limits.RunFault.TheVariants.{ReadFault, WriteFault, ItemLimit, OctetLimit, OutOfMemory}
-use Rattle.control_core.specs.declared.peering.Peering.{Peering}
+use Rattle.control_core.specs.States.{PeerState}
 use Rattle.control_core.specs.declared.peering.Turn.{Turn}
 use Rattle.control_core.specs.declared.peering.Turn.TheVariants.{Took, End}
 use Rattle.control_core.specs.Items.{IsRest, spread}
-use Rattle.control_core.specs.Standing.{StandsFor, held}
+use Rattle.control_core.specs.History.{StandsFor}
 use Rattle.bgp_wire.specs.Frames.{IsShort}
-use Rattle.control_core.specs.Taking.{reset_of}
-use Rattle.control_core.specs.Turns.{Counts, HadMemory, Turned}
-use Rattle.control_core.specs.Waiting.{Gave, IsEmptied}
-use Rattle.control_core.specs.Pulls.{asks_more, EndsBy, StaysWithin, TakesAtMost, reset_text, reset_lines, IsEndText, IsPullText, Wrote, met_end, Pulled, Stopped}
-use Rattle.urpf_base.specs.declared.sessions.SessionConfig.{SessionConfig}
+use Rattle.control_core.specs.ItemSteps.{reset_of}
+use Rattle.control_core.specs.Turns.{Counts, HadMemory, IsTurnFault, Turned}
+use Rattle.control_core.specs.FeedCalls.{Gave, IsEmptied}
+use Rattle.control_core.specs.Pulls.{asks_more, EndsBy, StaysWithin, TakesAtMost, reset_text, reset_lines, IsEndText, IsPullText, Wrote, met_end, Pull, Pulled, Stopped}
 use Rattle.urpf_base.specs.declared.sessions.ResetCause.{ResetCause}
 use Rattle.urpf_base.proofs.Growth.{Appends-append}
 use Rattle.control_core.proofs.ItemLaws.{spread-append}
@@ -40,25 +39,34 @@ gave_more (Some old) (Some mid) (Some new) first second gave more =
     gave ∙ spread-append first mid ∙ ap (λ (es : List Event). spread first ++ es) more ∙ sym (spread-append first (second ++ new)) ∙ ap spread (sym (append_assoc first second new))
 
 -- the lines of resets, and of one more item
-pub reset_lines-push : (number : ℕ) (effects : List Effect) (effect : Effect) → reset_lines number (effects ++ effect ∷ []) ≡ reset_lines number effects ++ reset_text (number + length effects + 1) (reset_of effect)
-reset_lines-push number [] effect =
-    append-nil (reset_text (number + 1) (reset_of effect)) ∙ ap (λ (n : ℕ). reset_text (n + 1) (reset_of effect)) (sym (add-zero number))
-reset_lines-push number (first ∷ effects) effect =
+pub reset_lines-push : (session number : ℕ) (effects : List Effect) (effect : Effect) → reset_lines session number (effects ++ effect ∷ []) ≡ reset_lines session number effects ++ reset_text session (number + length effects + 1) (reset_of effect)
+reset_lines-push session number [] effect =
+    append-nil (reset_text session (number + 1) (reset_of effect)) ∙ ap (λ (n : ℕ). reset_text session (n + 1) (reset_of effect)) (sym (add-zero number))
+reset_lines-push session number (first ∷ effects) effect =
     let same : number + 1 + length effects + 1 ≡ number + length (first ∷ effects) + 1 = omega arith in
-    ap (λ (t : List ℕ). reset_text (number + 1) (reset_of first) ++ t) (reset_lines-push (number + 1) effects effect)
-    ∙ sym (append_assoc (reset_text (number + 1) (reset_of first)) (reset_lines (number + 1) effects) (reset_text (number + 1 + length effects + 1) (reset_of effect)))
-    ∙ ap (λ (n : ℕ). reset_lines number (first ∷ effects) ++ reset_text n (reset_of effect)) same
+    ap (λ (t : List ℕ). reset_text session (number + 1) (reset_of first) ++ t) (reset_lines-push session (number + 1) effects effect)
+    ∙ sym (append_assoc (reset_text session (number + 1) (reset_of first)) (reset_lines session (number + 1) effects) (reset_text session (number + 1 + length effects + 1) (reset_of effect)))
+    ∙ ap (λ (n : ℕ). reset_lines session number (first ∷ effects) ++ reset_text session n (reset_of effect)) same
+
+-- the lines of resets, and of those behind them
+pub reset_lines-append : (session number : ℕ) (effects later : List Effect) → reset_lines session number (effects ++ later) ≡ reset_lines session number effects ++ reset_lines session (number + length effects) later
+reset_lines-append session number [] later = ap (λ (n : ℕ). reset_lines session n later) (sym (add-zero number))
+reset_lines-append session number (first ∷ effects) later =
+    let same : number + 1 + length effects ≡ number + length (first ∷ effects) = omega arith in
+    ap (λ (t : List ℕ). reset_text session (number + 1) (reset_of first) ++ t) (reset_lines-append session (number + 1) effects later)
+    ∙ sym (append_assoc (reset_text session (number + 1) (reset_of first)) (reset_lines session (number + 1) effects) (reset_lines session (number + 1 + length effects) later))
+    ∙ ap (λ (n : ℕ). reset_lines session number (first ∷ effects) ++ reset_lines session n later) same
 
 -- how far a pull has come, from where it began
-pub record SoFar (events : List Event) (effects : List Effect) (old_left left : Option (List Event)) (old_held held : Option (List ℕ)) (now : Peering) : Type 0 where
+pub record SoFar (session : ℕ) (events : List Event) (effects : List Effect) (old_left left : Option (List Event)) (old_held held : Option (List ℕ)) (now : PeerState) : Type 0 where
   pub gave : List Event
   pub more : List Effect
   pub told : Gave old_left gave left
   pub stands : StandsFor (events ++ gave) (effects ++ more) now
-  pub wrote : Appends old_held held (reset_lines (length effects) more)
+  pub wrote : Appends old_held held (reset_lines session (length effects) more)
 
-pub so_far_begins : (events : List Event) (effects : List Effect) (left : Option (List Event)) (held : Option (List ℕ)) (now : Peering) → StandsFor events effects now → SoFar events effects left left held held now
-so_far_begins events effects left held now stands = record {
+pub so_far_begins : (session : ℕ) (events : List Event) (effects : List Effect) (left : Option (List Event)) (held : Option (List ℕ)) (now : PeerState) → StandsFor events effects now → SoFar session events effects left left held held now
+so_far_begins session events effects left held now stands = record {
   gave = [];
   more = [];
   told = gave_none left;
@@ -67,16 +75,16 @@ so_far_begins events effects left held now stands = record {
 }
 
 -- a session that stands for events and effects that came in three parts
-in_parts : (events first second : List Event) (effects some others : List Effect) (now : Peering) → StandsFor ((events ++ first) ++ second) ((effects ++ some) ++ others) now → StandsFor (events ++ (first ++ second)) (effects ++ (some ++ others)) now
+in_parts : (events first second : List Event) (effects some others : List Effect) (now : PeerState) → StandsFor ((events ++ first) ++ second) ((effects ++ some) ++ others) now → StandsFor (events ++ (first ++ second)) (effects ++ (some ++ others)) now
 in_parts events first second effects some others now stands =
     subst (λ (es : List Event). StandsFor es (effects ++ (some ++ others)) now) (append_assoc events first second)
     (subst (λ (es : List Effect). StandsFor ((events ++ first) ++ second) es now) (append_assoc effects some others) stands)
 
 -- a turn that took no item goes on
-pub so_far_none : (events : List Event) (effects : List Effect) (old_left mid_left new_left : Option (List Event)) (old_held held : Option (List ℕ)) (mid new : Peering) (result : Result Turn RunFault)
-    → (far : SoFar events effects old_left mid_left old_held held mid) → (turned : Turned (events ++ far.gave) (effects ++ far.more) mid_left new_left result new) → turned.more ≡ []
-    → SoFar events effects old_left new_left old_held held new
-so_far_none events effects old_left mid_left new_left old_held held mid new result far turned none = record {
+pub so_far_none : (session : ℕ) (events : List Event) (effects : List Effect) (old_left mid_left new_left : Option (List Event)) (old_held held : Option (List ℕ)) (mid new : PeerState) (result : Result Turn RunFault)
+    → (far : SoFar session events effects old_left mid_left old_held held mid) → (turned : Turned (events ++ far.gave) (effects ++ far.more) mid_left new_left result new) → turned.more ≡ []
+    → SoFar session events effects old_left new_left old_held held new
+so_far_none session events effects old_left mid_left new_left old_held held mid new result far turned none = record {
   gave = far.gave ++ turned.gave;
   more = far.more;
   told = gave_more old_left mid_left new_left far.gave turned.gave far.told turned.told;
@@ -85,19 +93,19 @@ so_far_none events effects old_left mid_left new_left old_held held mid new resu
 }
 
 -- the item that a turn took, and how many there are then
-pub record OneMore (events : List Event) (effects : List Effect) (old_left new_left : Option (List Event)) (old_held mid_held : Option (List ℕ)) (reset : Option ResetCause) (new : Peering) : Type 0 where
+pub record OneMore (session : ℕ) (events : List Event) (effects : List Effect) (old_left new_left : Option (List Event)) (old_held mid_held : Option (List ℕ)) (reset : Option ResetCause) (new : PeerState) : Type 0 where
   pub gave : List Event
   pub more : List Effect
   pub effect : Effect
   pub told : Gave old_left gave new_left
   pub stands : StandsFor (events ++ gave) (effects ++ (more ++ effect ∷ [])) new
-  pub wrote : Appends old_held mid_held (reset_lines (length effects) more)
-  pub text : reset_text new.session.items reset ≡ reset_text (length effects + length more + 1) (reset_of effect)
+  pub wrote : Appends old_held mid_held (reset_lines session (length effects) more)
+  pub text : reset_text session new.session.items reset ≡ reset_text session (length effects + length more + 1) (reset_of effect)
 
-pub one_more_item : (events : List Event) (effects : List Effect) (old_left mid_left new_left : Option (List Event)) (old_held held : Option (List ℕ)) (mid new : Peering) (reset : Option ResetCause)
-    → (far : SoFar events effects old_left mid_left old_held held mid) → Turned (events ++ far.gave) (effects ++ far.more) mid_left new_left (Ok (Took reset)) new
-    → OneMore events effects old_left new_left old_held held reset new
-one_more_item events effects old_left mid_left new_left old_held held mid new reset far turned =
+pub one_more_item : (session : ℕ) (events : List Event) (effects : List Effect) (old_left mid_left new_left : Option (List Event)) (old_held held : Option (List ℕ)) (mid new : PeerState) (reset : Option ResetCause)
+    → (far : SoFar session events effects old_left mid_left old_held held mid) → Turned (events ++ far.gave) (effects ++ far.more) mid_left new_left (Ok (Took reset)) new
+    → OneMore session events effects old_left new_left old_held held reset new
+one_more_item session events effects old_left mid_left new_left old_held held mid new reset far turned =
     let effect = turned.shows.0 in
     let all : StandsFor (events ++ (far.gave ++ turned.gave)) (effects ++ (far.more ++ effect ∷ [])) new =
     subst (λ (es : List Effect). StandsFor (events ++ (far.gave ++ turned.gave)) (effects ++ (far.more ++ es)) new) turned.shows.1 (in_parts events far.gave turned.gave effects far.more turned.more new turned.stands) in
@@ -110,20 +118,20 @@ one_more_item events effects old_left mid_left new_left old_held held mid new re
       told = gave_more old_left mid_left new_left far.gave turned.gave far.told turned.told;
       stands = all;
       wrote = far.wrote;
-      text = ap (λ (n : ℕ). reset_text n reset) count ∙ ap (reset_text (length effects + length far.more + 1)) turned.shows.2;
+      text = ap (λ (n : ℕ). reset_text session n reset) count ∙ ap (reset_text session (length effects + length far.more + 1)) turned.shows.2;
     }
 
-pub so_far_item : (events : List Event) (effects : List Effect) (old_left new_left : Option (List Event)) (old_held mid_held new_held : Option (List ℕ)) (new : Peering) (reset : Option ResetCause)
-    → OneMore events effects old_left new_left old_held mid_held reset new → Appends mid_held new_held (reset_text new.session.items reset)
-    → SoFar events effects old_left new_left old_held new_held new
-so_far_item events effects old_left new_left old_held mid_held new_held new reset one appended = record {
+pub so_far_item : (session : ℕ) (events : List Event) (effects : List Effect) (old_left new_left : Option (List Event)) (old_held mid_held new_held : Option (List ℕ)) (new : PeerState) (reset : Option ResetCause)
+    → OneMore session events effects old_left new_left old_held mid_held reset new → Appends mid_held new_held (reset_text session new.session.items reset)
+    → SoFar session events effects old_left new_left old_held new_held new
+so_far_item session events effects old_left new_left old_held mid_held new_held new reset one appended = record {
   gave = one.gave;
   more = one.more ++ one.effect ∷ [];
   told = one.told;
   stands = one.stands;
   wrote =
-      subst (Appends old_held new_held) (ap (λ (t : List ℕ). reset_lines (length effects) one.more ++ t) one.text ∙ sym (reset_lines-push (length effects) one.more one.effect))
-      (Appends-append old_held mid_held new_held (reset_lines (length effects) one.more) (reset_text new.session.items reset) one.wrote appended);
+      subst (Appends old_held new_held) (ap (λ (t : List ℕ). reset_lines session (length effects) one.more ++ t) one.text ∙ sym (reset_lines-push session (length effects) one.more one.effect))
+      (Appends-append old_held mid_held new_held (reset_lines session (length effects) one.more) (reset_text session new.session.items reset) one.wrote appended);
 }
 
 never : (b : Bool) → (b && false) ≡ false
@@ -131,17 +139,17 @@ never true = refl
 never false = refl
 
 -- the end was not met
-not_met : (old new : Peering) → new.ended ≡ false → met_end old new ≡ false
+not_met : (old new : PeerState) → new.ended ≡ false → met_end old new ≡ false
 not_met old new is = ap (λ (b : Bool). not old.ended && b) is ∙ never (not old.ended)
 
-is_met : (old new : Peering) → old.ended ≡ false → new.ended ≡ true → met_end old new ≡ true
+is_met : (old new : PeerState) → old.ended ≡ false → new.ended ≡ true → met_end old new ≡ true
 is_met old new is now = ap (λ (b : Bool). not b && new.ended) is ∙ now
 
-no_end : (events : List Event) (before more : List Effect) (met : Bool) → met ≡ false → IsPullText events before more met (reset_lines (length before) more)
-no_end events before more met is = record {
+no_end : (session : ℕ) (events : List Event) (before more : List Effect) (met : Bool) → met ≡ false → IsPullText session events before more met (reset_lines session (length before) more)
+no_end session events before more met is = record {
   end = [];
-  is_end = subst (λ (b : Bool). IsEndText b events (length before + length more) []) (sym is) refl;
-  parts = sym (append-nil (reset_lines (length before) more));
+  is_end = subst (λ (b : Bool). IsEndText session b events (length before + length more) []) (sym is) refl;
+  parts = sym (append-nil (reset_lines session (length before) more));
 }
 
 -- all that was to be written was
@@ -162,8 +170,8 @@ wrote_all (Err (OctetLimit session)) IsText old new text written is appended = (
 wrote_all (Err OutOfMemory) IsText old new text written is appended = absurd written
 
 -- a pull that ends here, before the end of the feed
-pub pulled_so_far : (events : List Event) (effects : List Effect) (old_left new_left : Option (List Event)) (old_held new_held : Option (List ℕ)) (result : Result (Unit {0}) RunFault) (old new : Peering)
-    → SoFar events effects old_left new_left old_held new_held new → new.ended ≡ false → IsWritten result
+pub pulled_so_far : (events : List Event) (effects : List Effect) (old_left new_left : Option (List Event)) (old_held new_held : Option (List ℕ)) (result : Result (Unit {0}) RunFault) (old new : PeerState)
+    → SoFar old.number events effects old_left new_left old_held new_held new → new.ended ≡ false → IsWritten result
     → Pulled events effects old_left new_left old_held new_held result old new
 pulled_so_far events effects old_left new_left old_held new_held result old new far unmet written = record {
   gave = far.gave;
@@ -171,17 +179,17 @@ pulled_so_far events effects old_left new_left old_held new_held result old new 
   told = far.told;
   stands = far.stands;
   emptied = λ met. let clash : true ≡ false = sym met ∙ not_met old new unmet in cc;
-  wrote = wrote_all result (IsPullText (events ++ far.gave) effects far.more (met_end old new)) old_held new_held (reset_lines (length effects) far.more) written (no_end (events ++ far.gave) effects far.more (met_end old new) (not_met old new unmet)) far.wrote;
+  wrote = wrote_all result (IsPullText old.number (events ++ far.gave) effects far.more (met_end old new)) old_held new_held (reset_lines old.number (length effects) far.more) written (no_end old.number (events ++ far.gave) effects far.more (met_end old new) (not_met old new unmet)) far.wrote;
 }
 
-cut_at_reset : (events : List Event) (effects : List Effect) (old_left new_left : Option (List Event)) (old_held mid_held new_held : Option (List ℕ)) (old new : Peering) (reset : Option ResetCause) (n : ℕ)
-    → OneMore events effects old_left new_left old_held mid_held reset new → new.ended ≡ false → Appends mid_held new_held (take n (reset_text new.session.items reset))
+cut_at_reset : (events : List Event) (effects : List Effect) (old_left new_left : Option (List Event)) (old_held mid_held new_held : Option (List ℕ)) (old new : PeerState) (reset : Option ResetCause) (n : ℕ)
+    → OneMore old.number events effects old_left new_left old_held mid_held reset new → new.ended ≡ false → Appends mid_held new_held (take n (reset_text old.number new.session.items reset))
     → Pulled events effects old_left new_left old_held new_held (Err WriteFault) old new
 cut_at_reset events effects old_left new_left old_held mid_held new_held old new reset n one unmet appended =
-    let line = reset_text new.session.items reset in
-    let lines = reset_lines (length effects) one.more in
-    let whole : (lines ++ take n line) ++ drop n line ≡ reset_lines (length effects) (one.more ++ one.effect ∷ []) =
-    append_assoc lines (take n line) (drop n line) ∙ ap (λ (t : List ℕ). lines ++ t) (take-append-drop n line ∙ one.text) ∙ sym (reset_lines-push (length effects) one.more one.effect) in
+    let line = reset_text old.number new.session.items reset in
+    let lines = reset_lines old.number (length effects) one.more in
+    let whole : (lines ++ take n line) ++ drop n line ≡ reset_lines old.number (length effects) (one.more ++ one.effect ∷ []) =
+    append_assoc lines (take n line) (drop n line) ∙ ap (λ (t : List ℕ). lines ++ t) (take-append-drop n line ∙ one.text) ∙ sym (reset_lines-push old.number (length effects) one.more one.effect) in
     let met = not_met old new unmet in
     record {
       gave = one.gave;
@@ -192,14 +200,14 @@ cut_at_reset events effects old_left new_left old_held mid_held new_held old new
       wrote = (
         lines ++ take n line,
         drop n line,
-        subst (IsPullText (events ++ one.gave) effects (one.more ++ one.effect ∷ []) (met_end old new)) (sym whole) (no_end (events ++ one.gave) effects (one.more ++ one.effect ∷ []) (met_end old new) met),
+        subst (IsPullText old.number (events ++ one.gave) effects (one.more ++ one.effect ∷ []) (met_end old new)) (sym whole) (no_end old.number (events ++ one.gave) effects (one.more ++ one.effect ∷ []) (met_end old new) met),
         Appends-append old_held mid_held new_held lines (take n line) one.wrote appended,
       );
     }
 
 -- a pull whose line of a reset could not be written whole
-pub pulled_cut : (events : List Event) (effects : List Effect) (old_left new_left : Option (List Event)) (old_held mid_held new_held : Option (List ℕ)) (fault : RunFault) (old new : Peering) (reset : Option ResetCause) (n : ℕ) → fault ≡ WriteFault
-    → OneMore events effects old_left new_left old_held mid_held reset new → new.ended ≡ false → Appends mid_held new_held (take n (reset_text new.session.items reset))
+pub pulled_cut : (events : List Event) (effects : List Effect) (old_left new_left : Option (List Event)) (old_held mid_held new_held : Option (List ℕ)) (fault : RunFault) (old new : PeerState) (reset : Option ResetCause) (n : ℕ) → fault ≡ WriteFault
+    → OneMore old.number events effects old_left new_left old_held mid_held reset new → new.ended ≡ false → Appends mid_held new_held (take n (reset_text old.number new.session.items reset))
     → Pulled events effects old_left new_left old_held new_held (Err fault) old new
 pulled_cut events effects old_left new_left old_held mid_held new_held fault old new reset n is one unmet appended =
     subst (λ (f : RunFault). Pulled events effects old_left new_left old_held new_held (Err f) old new) (sym is)
@@ -227,9 +235,9 @@ wrote_end (Err fault) IsText old mid new lines line is first took =
     )
 
 -- a pull that met the end of the feed
-pub pulled_end : (events : List Event) (effects : List Effect) (old_left mid_left new_left : Option (List Event)) (old_held mid_held new_held : Option (List ℕ)) (result : Result (Unit {0}) RunFault) (old mid new : Peering) (rest : ℕ)
-    → (far : SoFar events effects old_left mid_left old_held mid_held mid) → Turned (events ++ far.gave) (effects ++ far.more) mid_left new_left (Ok (End rest)) new
-    → old.ended ≡ false → new.ended ≡ true → IsShort (held new.intake) → TookEnd result mid_held new_held (end_line 0 new.session.items rest)
+pub pulled_end : (events : List Event) (effects : List Effect) (old_left mid_left new_left : Option (List Event)) (old_held mid_held new_held : Option (List ℕ)) (result : Result (Unit {0}) RunFault) (old mid new : PeerState) (rest : ℕ)
+    → (far : SoFar old.number events effects old_left mid_left old_held mid_held mid) → Turned (events ++ far.gave) (effects ++ far.more) mid_left new_left (Ok (End rest)) new
+    → old.ended ≡ false → new.ended ≡ true → IsShort new.held → TookEnd result mid_held new_held (end_line old.number new.session.items rest)
     → Pulled events effects old_left new_left old_held new_held result old new
 pulled_end events effects old_left mid_left new_left old_held mid_held new_held result old mid new rest far turned unmet ended short took =
     let all : StandsFor (events ++ (far.gave ++ turned.gave)) (effects ++ far.more) new = subst (λ (es : List Effect). StandsFor (events ++ (far.gave ++ turned.gave)) (effects ++ es) new) (ap (λ (es : List Effect). far.more ++ es) turned.shows.0 ∙ append-nil far.more) (in_parts events far.gave turned.gave effects far.more turned.more new turned.stands) in
@@ -242,21 +250,21 @@ pulled_end events effects old_left mid_left new_left old_held mid_held new_held 
       told = gave_more old_left mid_left new_left far.gave turned.gave far.told turned.told;
       stands = all;
       emptied = λ is. (emptied_through old_left mid_left new_left far.gave far.told turned.shows.2, short);
-      wrote = wrote_end result (IsPullText (events ++ (far.gave ++ turned.gave)) effects far.more (met_end old new)) old_held mid_held new_held (reset_lines (length effects) far.more) (end_line 0 new.session.items rest)
+      wrote = wrote_end result (IsPullText old.number (events ++ (far.gave ++ turned.gave)) effects far.more (met_end old new)) old_held mid_held new_held (reset_lines old.number (length effects) far.more) (end_line old.number new.session.items rest)
           (record {
-            end = end_line 0 new.session.items rest;
-            is_end = subst (λ (b : Bool). IsEndText b (events ++ (far.gave ++ turned.gave)) (length effects + length far.more) (end_line 0 new.session.items rest)) (sym met) (rest, left, ap (λ (n : ℕ). end_line 0 n rest) count);
+            end = end_line old.number new.session.items rest;
+            is_end = subst (λ (b : Bool). IsEndText old.number b (events ++ (far.gave ++ turned.gave)) (length effects + length far.more) (end_line old.number new.session.items rest)) (sym met) (rest, left, ap (λ (n : ℕ). end_line old.number n rest) count);
             parts = refl;
           })
           far.wrote took;
     }
 
 -- the items of a pull that took none so far
-pub takes_none : (count : Option ℕ) (now : Peering) → TakesAtMost count now now
+pub takes_none : (count : Option ℕ) (now : PeerState) → TakesAtMost count now now
 takes_none None now = omega arith
 takes_none (Some count) now = (omega arith, omega arith)
 
-pub takes_same : (count : Option ℕ) (old mid new : Peering) → TakesAtMost count old mid → new.session.items ≡ mid.session.items → TakesAtMost count old new
+pub takes_same : (count : Option ℕ) (old mid new : PeerState) → TakesAtMost count old mid → new.session.items ≡ mid.session.items → TakesAtMost count old new
 takes_same None old mid new within same = omega arith
 takes_same (Some count) old mid new within same = (omega (arith, within.0), omega (arith, within.1))
 
@@ -264,14 +272,14 @@ below : (taken count : ℕ) → nat_lt taken count ≡ true → taken < count
 below taken count is = grind (arith, nat_tests)
 
 -- one more item, where more are asked for
-pub takes_more : (count : Option ℕ) (old mid new : Peering) → TakesAtMost count old mid → asks_more count (mid.session.items - old.session.items) ≡ true → new.session.items ≡ mid.session.items + 1 → TakesAtMost count old new
+pub takes_more : (count : Option ℕ) (old mid new : PeerState) → TakesAtMost count old mid → asks_more count (mid.session.items - old.session.items) ≡ true → new.session.items ≡ mid.session.items + 1 → TakesAtMost count old new
 takes_more None old mid new within asks one = omega arith
 takes_more (Some count) old mid new within asks one =
     let less = below (mid.session.items - old.session.items) count asks in
     (omega (arith, within.0), omega (arith, within.0, within.1, less))
 
 -- what a turn that failed took
-pub takes_until : (count : Option ℕ) (fault : RunFault) (old mid new : Peering) (limits : Limits) → TakesAtMost count old mid → asks_more count (mid.session.items - old.session.items) ≡ true → Counts (Err fault) mid new limits → TakesAtMost count old new
+pub takes_until : (count : Option ℕ) (fault : RunFault) (old mid new : PeerState) (limits : Limits) → TakesAtMost count old mid → asks_more count (mid.session.items - old.session.items) ≡ true → Counts (Err fault) mid new limits → TakesAtMost count old new
 takes_until count (ReadFault session) old mid new limits within asks counts = takes_same count old mid new within counts.0
 takes_until count WriteFault old mid new limits within asks counts = absurd counts
 takes_until count (ItemLimit session) old mid new limits within asks counts = absurd counts
@@ -279,7 +287,7 @@ takes_until count (OctetLimit session) old mid new limits within asks counts = t
 takes_until count OutOfMemory old mid new limits within asks counts = takes_more count old mid new within asks counts.0
 
 -- a turn that failed passes no limit
-pub stays_until : (fault : RunFault) (old mid new : Peering) (limits : Limits) → StaysWithin limits old mid → mid.session.items < limits.items → Counts (Err fault) mid new limits → StaysWithin limits old new
+pub stays_until : (fault : RunFault) (old mid new : PeerState) (limits : Limits) → StaysWithin limits old mid → mid.session.items < limits.items → Counts (Err fault) mid new limits → StaysWithin limits old new
 stays_until (ReadFault session) old mid new limits stays below counts = (λ begun. omega (arith, below, counts.0), λ begun. omega (arith, counts.2))
 stays_until WriteFault old mid new limits stays below counts = absurd counts
 stays_until (ItemLimit session) old mid new limits stays below counts = absurd counts
@@ -287,18 +295,18 @@ stays_until (OctetLimit session) old mid new limits stays below counts = (λ beg
 stays_until OutOfMemory old mid new limits stays below counts = (λ begun. omega (arith, below, counts.0), λ begun. omega (arith, stays.1 begun, counts.1))
 
 -- a pull whose turn failed
-pub pulled_until : (events : List Event) (effects : List Effect) (old_left mid_left new_left : Option (List Event)) (old_held new_held : Option (List ℕ)) (fault : RunFault) (old mid new : Peering) (limits : Limits)
-    → (far : SoFar events effects old_left mid_left old_held new_held mid) → Turned (events ++ far.gave) (effects ++ far.more) mid_left new_left (Err fault) new
+pub pulled_until : (events : List Event) (effects : List Effect) (old_left mid_left new_left : Option (List Event)) (old_held new_held : Option (List ℕ)) (fault : RunFault) (old mid new : PeerState) (limits : Limits)
+    → (far : SoFar old.number events effects old_left mid_left old_held new_held mid) → Turned (events ++ far.gave) (effects ++ far.more) mid_left new_left (Err fault) new
     → mid.ended ≡ false → Counts (Err fault) mid new limits → HadMemory {T = Unit {0}} (Err fault)
     → Pulled events effects old_left new_left old_held new_held (Err fault) old new
 pulled_until events effects old_left mid_left new_left old_held new_held (ReadFault session) old mid new limits far turned unmet counts had =
     pulled_so_far events effects old_left new_left old_held new_held (Err (ReadFault session)) old new
-    (so_far_none events effects old_left mid_left new_left old_held new_held mid new (Err (ReadFault session)) far turned turned.shows) (counts.1 ∙ unmet) tt
+    (so_far_none old.number events effects old_left mid_left new_left old_held new_held mid new (Err (ReadFault session)) far turned turned.shows) (counts.1 ∙ unmet) tt
 pulled_until events effects old_left mid_left new_left old_held new_held WriteFault old mid new limits far turned unmet counts had = absurd counts
 pulled_until events effects old_left mid_left new_left old_held new_held (ItemLimit session) old mid new limits far turned unmet counts had = absurd counts
 pulled_until events effects old_left mid_left new_left old_held new_held (OctetLimit session) old mid new limits far turned unmet counts had =
     pulled_so_far events effects old_left new_left old_held new_held (Err (OctetLimit session)) old new
-    (so_far_none events effects old_left mid_left new_left old_held new_held mid new (Err (OctetLimit session)) far turned turned.shows) (counts.1 ∙ unmet) tt
+    (so_far_none old.number events effects old_left mid_left new_left old_held new_held mid new (Err (OctetLimit session)) far turned turned.shows) (counts.1 ∙ unmet) tt
 pulled_until events effects old_left mid_left new_left old_held new_held OutOfMemory old mid new limits far turned unmet counts had = absurd had
 
 -- what a sink took of the end line, by the two clauses that say so
@@ -307,9 +315,9 @@ took_end (Ok done) old new line ok err cut = ok
 took_end (Err fault) old new line ok err cut = (err, cut)
 
 -- a pull that is asked for nothing, or after the end
-pub pulled_none : (events : List Event) (effects : List Effect) (left : Option (List Event)) (held : Option (List ℕ)) (now : Peering) → StandsFor events effects now → now.ended ≡ true → Pulled events effects left left held held (Ok tt) now now
+pub pulled_none : (events : List Event) (effects : List Effect) (left : Option (List Event)) (held : Option (List ℕ)) (now : PeerState) → StandsFor events effects now → now.ended ≡ true → Pulled events effects left left held held (Ok tt) now now
 pulled_none events effects left held now stands ended =
-    let far = so_far_begins events effects left held now stands in
+    let far = so_far_begins now.number events effects left held now stands in
     let met : met_end now now ≡ false = ap (λ (b : Bool). not b && now.ended) ended in
     record {
       gave = far.gave;
@@ -317,24 +325,56 @@ pulled_none events effects left held now stands ended =
       told = far.told;
       stands = far.stands;
       emptied = λ is. let clash : true ≡ false = sym is ∙ met in cc;
-      wrote = (reset_lines (length effects) far.more, no_end (events ++ far.gave) effects far.more (met_end now now) met, far.wrote);
+      wrote = (reset_lines now.number (length effects) far.more, no_end now.number (events ++ far.gave) effects far.more (met_end now now) met, far.wrote);
     }
 
 -- how a pull that met the end, or that took all that was asked for, ends
-pub ends_at_end : (count : Option ℕ) (limits : Limits) (old new : Peering) (result : Result (Unit {0}) RunFault) → old.ended ≡ false → new.ended ≡ true → asks_more count (new.session.items - old.session.items) ≡ true → new.session.items < limits.items → new.octets < limits.octets → IfErr result (λ fault. fault ≡ WriteFault) → EndsBy count limits old new result
+pub ends_at_end : (count : Option ℕ) (limits : Limits) (old new : PeerState) (result : Result (Unit {0}) RunFault) → old.ended ≡ false → new.ended ≡ true → asks_more count (new.session.items - old.session.items) ≡ true → new.session.items < limits.items → new.octets < limits.octets → IfErr result (λ fault. fault ≡ WriteFault) → EndsBy count limits old new result
 ends_at_end count limits old new (Ok done) unmet ended asks items octets err = inr (unmet, inl (ended, asks, items, octets))
-ends_at_end count limits old new (Err fault) unmet ended asks items octets err = subst (λ (f : RunFault). EndsBy count limits old new (Err f)) (sym err) tt
+ends_at_end count limits old new (Err fault) unmet ended asks items octets err = subst (λ (f : RunFault). EndsBy count limits old new (Err f)) (sym err) (unmet, λ is. asks)
 
 -- a pull that memory ran out for, where it had come so far
-pub stopped_at : (events : List Event) (effects : List Effect) (config : SessionConfig) (old_left left : Option (List Event)) (old_held held : Option (List ℕ)) (now : Peering) → now.session.config ≡ config
-    → SoFar events effects old_left left old_held held now → Stopped events effects config old_left old_held held
-stopped_at events effects config old_left left old_held held now is far = record {
+pub stopped_at : (count : Option ℕ) (events : List Event) (effects : List Effect) (old : PeerState) (old_left left : Option (List Event)) (old_held held : Option (List ℕ)) (now : PeerState) → now.session.config ≡ old.session.config → TakesAtMost count old now
+    → SoFar old.number events effects old_left left old_held held now → Stopped count events effects old old_left old_held held
+stopped_at count events effects old old_left left old_held held now is most far = record {
   gave = far.gave;
   more = far.more;
   left = left;
   told = far.told;
   before = now;
-  config_is = is;
+  config = is;
+  most = most;
   stands = far.stands;
   wrote = far.wrote;
+}
+
+-- where memory was had, it was not wanted
+pub had_memory : (result : Result (Unit {0}) RunFault) → HadMemory result → result ≡ Err OutOfMemory → ⊥
+had_memory result had is = subst (λ (r : Result (Unit {0}) RunFault). HadMemory r) is had
+
+pub end_had : (result : Result (Unit {0}) RunFault) → IfErr result (λ fault. fault ≡ WriteFault) → HadMemory result
+end_had (Ok done) err = tt
+end_had (Err fault) err = subst (λ (f : RunFault). HadMemory {T = Unit {0}} (Err f)) (sym err) tt
+
+-- how a pull ends whose turn failed
+pub ends_until : (count : Option ℕ) (fault : RunFault) (old mid new : PeerState) (limits : Limits) → IsTurnFault old.number fault → old.ended ≡ false → mid.ended ≡ false → asks_more count (mid.session.items - old.session.items) ≡ true
+    → mid.session.items < limits.items → Counts (Err fault) mid new limits → EndsBy count limits old new (Err fault)
+ends_until count (ReadFault session) old mid new limits is begun unmet asks few counts =
+    (is, (begun, counts.1 ∙ unmet, ap (λ (n : ℕ). asks_more count (n - old.session.items)) counts.0 ∙ asks), omega (arith, counts.0, few), counts.2, counts.3)
+ends_until count WriteFault old mid new limits is begun unmet asks few counts = absurd counts
+ends_until count (ItemLimit session) old mid new limits is begun unmet asks few counts = absurd counts
+ends_until count (OctetLimit session) old mid new limits is begun unmet asks few counts =
+    (is, (begun, counts.1 ∙ unmet, ap (λ (n : ℕ). asks_more count (n - old.session.items)) counts.0 ∙ asks), omega (arith, counts.0, few), counts.2, counts.3)
+ends_until count OutOfMemory old mid new limits is begun unmet asks few counts = tt
+
+-- a pull after the end does nothing
+pub pull_after_end : (count : Option ℕ) (limits : Limits) (left : Option (List Event)) (held : Option (List ℕ)) (now : PeerState) → now.ended ≡ true → Pull count limits left left held held (Ok tt) now now
+pull_after_end count limits left held now ended = record {
+  pulled = λ events effects stands had. pulled_none events effects left held now stands ended;
+  stopped = λ events effects stands wanted. absurd (had_memory (Ok tt) tt wanted);
+  ends = inl (ended, refl);
+  most = takes_none count now;
+  within = (λ within. within, λ within. within);
+  number = refl;
+  config = refl;
 }

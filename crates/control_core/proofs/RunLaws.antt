@@ -1,5 +1,6 @@
 -- Items have one list of effects.
-use Rattle.std.proofs.Common.{◌≡◌, ℕ, List, [], ◌∷◌, ◌++◌, sym, ap, subst, ◌∙◌}
+use Rattle.std.proofs.Common.{◌≡◌, ℕ, List, [], ◌∷◌, ◌++◌, refl, sym, ap, subst, ◌∙◌, append_assoc}
+use Rattle.std.proofs.lemmas.List.{append-nil}
 use Rattle.std.specs.Prelude.{nat_lt, if◌then◌else◌}
 use Rattle.bgp_wire.specs.Header.{type_field}
 use Rattle.bgp_wire.specs.States.{kind_of}
@@ -57,3 +58,41 @@ one_run_from config before state (item ∷ items) effects others last other p q 
 pub one_run : (config : SessionConfig) (items : List Item) (effects others : List Effect) (last other : State)
     → Runs config items effects last → Runs config items others other → (effects ≡ others) × (last ≡ other)
 one_run config items effects others last other p q = one_run_from config [] Idle items effects others last other p q
+
+-- the effects of a run begin with those before it
+pub grows : (config : SessionConfig) (before : List Effect) (state : State) (items : List Item) (effects : List Effect) (last : State)
+    → RunsFrom config before state items effects last → (later : List Effect) × (effects ≡ before ++ later)
+grows config before state [] effects last runs = ([], runs.0 ∙ sym (append-nil before))
+grows config before state (item ∷ items) effects last runs =
+    let rest = grows config (before ++ runs.0.1 ∷ []) runs.0.0 items effects last runs.2 in
+    (runs.0.1 ∷ rest.0, rest.1 ∙ append_assoc before (runs.0.1 ∷ []) rest.0)
+
+-- a run of items in two parts: of the first, and from there on of the others
+pub record InParts (config : SessionConfig) (before : List Effect) (state : State) (items : List Item) (effects : List Effect) : Type 0 where
+  pub first : List Effect
+  pub later : List Effect
+  pub mid : State
+  pub runs : RunsFrom config before state items (before ++ first) mid
+  pub parts : effects ≡ (before ++ first) ++ later
+
+pub in_parts : (config : SessionConfig) (before : List Effect) (state : State) (items others : List Item) (effects : List Effect) (last : State)
+    → RunsFrom config before state (items ++ others) effects last → InParts config before state items effects
+in_parts config before state [] others effects last runs =
+    let grown = grows config before state others effects last runs in
+    record {
+      first = [];
+      later = grown.0;
+      mid = state;
+      runs = (append-nil before, refl);
+      parts = grown.1 ∙ ap (λ (es : List Effect). es ++ grown.0) (sym (append-nil before));
+    }
+in_parts config before state (item ∷ items) others effects last runs =
+    let rest = in_parts config (before ++ runs.0.1 ∷ []) runs.0.0 items others effects last runs.2 in
+    let same : (before ++ runs.0.1 ∷ []) ++ rest.first ≡ before ++ (runs.0.1 ∷ rest.first) = append_assoc before (runs.0.1 ∷ []) rest.first in
+    record {
+      first = runs.0.1 ∷ rest.first;
+      later = rest.later;
+      mid = rest.mid;
+      runs = (runs.0, runs.1, subst (λ (es : List Effect). RunsFrom config (before ++ runs.0.1 ∷ []) runs.0.0 items es rest.mid) same rest.runs);
+      parts = rest.parts ∙ ap (λ (es : List Effect). es ++ rest.later) same;
+    }

@@ -1,5 +1,6 @@
 -- Items have a list of effects: whatever they are, the prefixes that they leave can be listed, so the maximum can be compared.
-use Rattle.std.proofs.Common.{◌≡◌, ◌⊎◌, ℕ, List, [], ◌∷◌, ◌++◌, length, Option, drop, refl, sym, subst, inl, inr}
+use Rattle.std.proofs.Common.{◌≡◌, ◌⊎◌, ℕ, List, [], ◌∷◌, ◌++◌, length, Option, drop, refl, sym, subst, inl, inr, append_assoc}
+use Rattle.std.proofs.lemmas.List.{append-nil}
 use Rattle.std.specs.Prelude.{nat_lt, if◌then◌else◌, ◌↔◌}
 use Rattle.std.specs.Borrow.{Bor}
 use Rattle.bgp_wire.specs.Header.{type_field}
@@ -110,10 +111,10 @@ without_distinct qs (p ∷ ps) distinct =
     left_in_distinct qs (without qs ps) p (has_or_not qs p) (λ has. distinct.0 (without_has qs ps p has).0) (without_distinct qs ps distinct.1)
 
 -- the prefixes that effects leave, each once
-record Listed (es : List Effect) : Type 0 where
-  prefixes : List Block
-  distinct : AreDistinct prefixes
-  each : (p : Block) → Has prefixes p ↔ Reaches es p
+pub record Listed (es : List Effect) : Type 0 where
+  pub prefixes : List Block
+  pub distinct : AreDistinct prefixes
+  pub each : (p : Block) → Has prefixes p ↔ Reaches es p
 
 listed_none : Listed []
 listed_none = record { prefixes = []; distinct = tt; each = λ p. (λ never. absurd never, λ r. absurd r.1) }
@@ -191,3 +192,38 @@ some_run_from config before state (item ∷ items) listed =
 -- items have a list of effects
 pub some_run : (config : SessionConfig) (items : List Item) → (effects : List Effect) × (last : State) × Runs config items effects last
 some_run config items = some_run_from config [] Idle items listed_none
+
+listed_on : (before later : List Effect) → Listed before → Listed (before ++ later)
+listed_on before [] listed = subst Listed (sym (append-nil before)) listed
+listed_on before (e ∷ later) listed = subst Listed (append_assoc before (e ∷ []) later) (listed_on (before ++ e ∷ []) later (listed_more before e listed))
+
+-- the prefixes that any effects leave can be listed
+pub all_listed : (effects : List Effect) → Listed effects
+all_listed effects = listed_on [] effects listed_none
+
+-- the prefixes that came or went between two lists of effects, each once
+pub record CameOrWent (old new : List Effect) : Type 0 where
+  pub changed : List Block
+  pub distinct : AreDistinct changed
+  pub each : (p : Block) → Has changed p ↔ (((Reaches old p → ⊥) × Reaches new p) ⊎ (Reaches old p × (Reaches new p → ⊥)))
+
+pub some_difference : (old new : List Effect) → CameOrWent old new
+some_difference old new =
+    let a = all_listed old in
+    let b = all_listed new in
+    let came = without a.prefixes b.prefixes in
+    let went = without b.prefixes a.prefixes in
+    record {
+      changed = joined came went;
+      distinct = joined_distinct came went (without_distinct a.prefixes b.prefixes b.distinct);
+      each = λ p. (
+        λ has. elim ((joined_has came went p).0 has) [
+          | inl is ↦ let parts = without_has a.prefixes b.prefixes p is in inl ((λ r. parts.1 ((a.each p).1 r)), (b.each p).0 parts.0)
+          | inr is ↦ let parts = without_has b.prefixes a.prefixes p is in inr ((a.each p).0 parts.0, (λ r. parts.1 ((b.each p).1 r)))
+        ],
+        λ differs. (joined_has came went p).1 (elim differs [
+          | inl is ↦ inl (without_keeps a.prefixes b.prefixes p ((b.each p).1 is.1) (λ has. is.0 ((a.each p).0 has)))
+          | inr is ↦ inr (without_keeps b.prefixes a.prefixes p ((a.each p).1 is.0) (λ has. is.1 ((b.each p).0 has)))
+        ]),
+      );
+    }

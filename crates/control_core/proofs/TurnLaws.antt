@@ -21,18 +21,20 @@ use Rattle.control_core.specs.declared.peering.Peering.{Peering}
 use Rattle.control_core.specs.declared.peering.Turn.{Turn}
 use Rattle.control_core.specs.declared.peering.Turn.TheVariants.{Took, Octets}
 use Rattle.control_core.specs.declared.peering.Turn.TheVariants as turn
-use Rattle.control_core.specs.Items.{Item, came_up, message, bad_header, went_down, passed, Stretch, stretch_after, stretch_at_end, octet_count, left_behind, LeavesOctets, IsRest, AreItems, AreItemsOf}
+use Rattle.control_core.specs.Items.{Item, came_up, message, bad_header, went_down, passed, Connection, connection_after, connection_at_end, octet_count, left_behind, LeavesOctets, IsRest, AreItems, AreItemsOf}
 use Rattle.control_core.specs.Effects.{HoldsAll}
-use Rattle.control_core.specs.Standing.{held, HasFault, HoldsStretch, IsUsedUpTo, StandsFor}
-use Rattle.control_core.specs.declared.intake.Intake.{Intake}
+use Rattle.control_core.specs.Peers.{held_octets, peer_of}
+use Rattle.control_core.specs.States.{PeerState}
+use Rattle.control_core.specs.History.{HasFault, HoldsConnection, IsUsedUpTo, StandsFor}
+use Rattle.control_core.specs.declared.reassembly.Reassembly.{Reassembly}
 use Rattle.control_core.specs.Runs.{Runs}
-use Rattle.control_core.specs.Taking.{TookRow}
+use Rattle.control_core.specs.ItemSteps.{TookRow}
 use Rattle.control_core.specs.TurnParts.{CountsItem, IsItem, TookItem, answer_of}
 use Rattle.control_core.specs.Turns.{Counts, HadMemory, Shows, Turned}
-use Rattle.control_core.specs.Waiting.{Fills, Gave, IsEmptied}
+use Rattle.control_core.specs.FeedCalls.{Fills, Gave, IsEmptied}
 use Rattle.control_core.specs.declared.limits.Limits.{Limits}
-use Rattle.control_core.proofs.ItemLaws.{needed, needed_is, needed_behind, needed_more, none_needed, fault_needed, still_faulty, brought, stretch_at_end-append}
-use Rattle.control_core.proofs.StandingLaws.{SameBut, takes_message, stands_after_pending, stands_after_event, items_one_more, none_pending, stretch_begun, message_pending, fault_behind, fault_pending}
+use Rattle.control_core.proofs.ItemLaws.{needed, needed_is, needed_behind, needed_more, none_needed, fault_needed, still_faulty, brought, connection_at_end-append}
+use Rattle.control_core.proofs.HistoryLaws.{SameBut, takes_message, stands_after_pending, stands_after_event, items_one_more, none_pending, connection_begun, message_pending, fault_behind, fault_pending}
 
 -- how many octets came in events one after the other
 pub octet_count-append : (events later : List Event) → octet_count (events ++ later) ≡ octet_count events + octet_count later
@@ -43,27 +45,27 @@ octet_count-append (down ∷ events) later = octet_count-append events later
 octet_count-append (elapsed seconds ∷ events) later = octet_count-append events later
 
 -- a peering that holds no octets
-holds_none_of : (taking : Bool) (stretch : Stretch) (new : Peering) → new.intake.framer ≡ [] → new.intake.waiting ≡ [] → new.intake.taking ≡ taking → HoldsStretch taking stretch [] [] → HoldsStretch new.intake.taking stretch (held new.intake) []
-holds_none_of taking stretch new framer waiting is holds =
-    let none : held new.intake ≡ [] = ap (λ (t : List ℕ). t ++ new.intake.waiting) framer ∙ waiting in
-    subst (λ (t : List ℕ). HoldsStretch new.intake.taking stretch t []) (sym none) (subst (λ (b : Bool). HoldsStretch b stretch [] []) (sym is) holds)
+holds_none_of : (receiving : Bool) (connection : Connection) (new : Peering) → new.reassembly.framer ≡ [] → new.reassembly.waiting ≡ [] → new.reassembly.receiving ≡ receiving → HoldsConnection receiving connection [] [] → HoldsConnection new.reassembly.receiving connection (held_octets new.reassembly) []
+holds_none_of receiving connection new framer waiting is holds =
+    let none : held_octets new.reassembly ≡ [] = ap (λ (t : List ℕ). t ++ new.reassembly.waiting) framer ∙ waiting in
+    subst (λ (t : List ℕ). HoldsConnection new.reassembly.receiving connection t []) (sym none) (subst (λ (b : Bool). HoldsConnection b connection [] []) (sym is) holds)
 
 -- where a part of a message is held, no item is still to be taken
-pub idle : (events : List Event) (effects : List Effect) (old : Peering) → (stands : StandsFor events effects old) → IsShort old.intake.framer → old.intake.waiting ≡ [] → stands.pending ≡ []
+pub idle : (events : List Event) (effects : List Effect) (old : Peering) → (stands : StandsFor events effects (peer_of old)) → IsShort old.reassembly.framer → old.reassembly.waiting ≡ [] → stands.pending ≡ []
 idle events effects old stands short none =
-    let all : held old.intake ≡ old.intake.framer = ap (λ (t : List ℕ). old.intake.framer ++ t) none ∙ append-nil old.intake.framer in
-    none_pending old.intake.taking (stretch_at_end None events) (held old.intake) stands.pending (subst IsShort (sym all) short) stands.stretch
+    let all : held_octets old.reassembly ≡ old.reassembly.framer = ap (λ (t : List ℕ). old.reassembly.framer ++ t) none ∙ append-nil old.reassembly.framer in
+    none_pending old.reassembly.receiving (connection_at_end None events) (held_octets old.reassembly) stands.pending (subst IsShort (sym all) short) stands.connection
 
-seconds_bring : (stretch : Stretch) (seconds : ℕ) → brought stretch (elapsed seconds) ≡ passed seconds ∷ []
+seconds_bring : (connection : Connection) (seconds : ℕ) → brought connection (elapsed seconds) ≡ passed seconds ∷ []
 unfolding brought
 seconds_bring None seconds = refl
 seconds_bring (Some text) seconds = refl
 
-seconds_stay : (stretch : Stretch) (seconds : ℕ) → stretch_after stretch (elapsed seconds) ≡ stretch
+seconds_stay : (connection : Connection) (seconds : ℕ) → connection_after connection (elapsed seconds) ≡ connection
 seconds_stay None seconds = refl
 seconds_stay (Some text) seconds = refl
 
--- more octets of a stretch bring the items of what is held with them
+-- more octets of a connection bring the items of what is held with them
 more_held : (text part piece : List ℕ) → IsShort part → IsUsedUpTo text part [] → IsUsedUpTo (text ++ piece) (part ++ piece) (needed_more text piece).0
 more_held text part piece short is =
     let joined : text ++ piece ≡ concat is.used ++ (part ++ piece) = ap (λ (t : List ℕ). t ++ piece) is.parts ∙ append_assoc (concat is.used) part piece in
@@ -91,8 +93,8 @@ more_behind_fault text piece is =
     )
 
 -- what is held after octets came
-octets_hold : (stretch : Stretch) (part piece : List ℕ) (taking : Bool) (waiting : List ℕ) → (taking ≡ true → waiting ≡ piece) → (taking ≡ false → waiting ≡ []) → IsShort part → HoldsStretch taking stretch part []
-    → HoldsStretch taking (stretch_after stretch (octets piece)) (part ++ waiting) (brought stretch (octets piece))
+octets_hold : (connection : Connection) (part piece : List ℕ) (receiving : Bool) (waiting : List ℕ) → (receiving ≡ true → waiting ≡ piece) → (receiving ≡ false → waiting ≡ []) → IsShort part → HoldsConnection receiving connection part []
+    → HoldsConnection receiving (connection_after connection (octets piece)) (part ++ waiting) (brought connection (octets piece))
 unfolding brought
 octets_hold None part piece true waiting kept dropped short holds = absurd holds
 octets_hold (Some text) part piece true waiting kept dropped short holds =
@@ -111,117 +113,117 @@ answered P (Err failed) result Q is same had make = absurd (subst HadMemory same
 
 -- the message in front was taken
 pub took_message : (events : List Event) (effects : List Effect) (old new : Peering) (kind : MsgKind) (body : Bor (List ℕ)) (taken : Result (Option ResetCause) memory.OutOfMemory) (result : Result Turn RunFault)
-    → StandsFor events effects old → IsMessage old.intake.framer → kind ≡ kind_of (type_field old.intake.framer) → body.now ≡ drop 19 old.intake.framer
-    → SameBut old new → new.intake.framer ≡ [] → new.intake.waiting ≡ old.intake.waiting → new.intake.taking ≡ old.intake.taking
+    → StandsFor events effects (peer_of old) → IsMessage old.reassembly.framer → kind ≡ kind_of (type_field old.reassembly.framer) → body.now ≡ drop 19 old.reassembly.framer
+    → SameBut (peer_of old) (peer_of new) → new.reassembly.framer ≡ [] → new.reassembly.waiting ≡ old.reassembly.waiting → new.reassembly.receiving ≡ old.reassembly.receiving
     → ((before : List Effect) → HoldsAll before old.rib → IfOk taken (TookRow old.session (fsm.Message kind body) before new.session new.rib))
-    → result ≡ answer_of taken → HadMemory result → TookItem events effects new result
-took_message events effects old new kind body taken result stands is is_kind is_body same framer waiting taking took answer had =
-    let stretch = stretch_at_end None events in
-    let front = message_pending stretch old.intake.framer old.intake.waiting stands.pending old.intake.taking is stands.stretch in
-    let now : held new.intake ≡ old.intake.waiting = ap (λ (t : List ℕ). t ++ new.intake.waiting) framer ∙ waiting in
-    let holds : HoldsStretch new.intake.taking stretch (held new.intake) (needed old.intake.waiting) =
-    subst (λ (t : List ℕ). HoldsStretch new.intake.taking stretch t (needed old.intake.waiting)) (sym now) (subst (λ (b : Bool). HoldsStretch b stretch old.intake.waiting (needed old.intake.waiting)) (sym taking) front.1) in
-    answered (TookItem events effects new) taken result (TookRow old.session (fsm.Message kind body) effects new.session new.rib) (took effects stands.routes) answer had
+    → result ≡ answer_of taken → HadMemory result → TookItem events effects (peer_of new) result
+took_message events effects old new kind body taken result stands is is_kind is_body same framer waiting receiving took answer had =
+    let connection = connection_at_end None events in
+    let front = message_pending connection old.reassembly.framer old.reassembly.waiting stands.pending old.reassembly.receiving is stands.connection in
+    let now : held_octets new.reassembly ≡ old.reassembly.waiting = ap (λ (t : List ℕ). t ++ new.reassembly.waiting) framer ∙ waiting in
+    let holds : HoldsConnection new.reassembly.receiving connection (held_octets new.reassembly) (needed old.reassembly.waiting) =
+    subst (λ (t : List ℕ). HoldsConnection new.reassembly.receiving connection t (needed old.reassembly.waiting)) (sym now) (subst (λ (b : Bool). HoldsConnection b connection old.reassembly.waiting (needed old.reassembly.waiting)) (sym receiving) front.1) in
+    answered (TookItem events effects (peer_of new)) taken result (TookRow old.session (fsm.Message kind body) effects new.session new.rib) (took effects stands.routes) answer had
     (λ reset row. record {
       effect = row.outcome.1;
-      stands = stands_after_pending events effects old new row.outcome reset (message old.intake.framer) (needed old.intake.waiting) stands same front.0
-          (takes_message old.session new.session old.intake.framer kind body effects new.rib reset is_kind is_body row) row.came holds;
+      stands = stands_after_pending events effects (peer_of old) (peer_of new) row.outcome reset (message old.reassembly.framer) (needed old.reassembly.waiting) stands same front.0
+          (takes_message old.session new.session old.reassembly.framer kind body effects new.rib reset is_kind is_body row) row.came holds;
       told = ap (λ (r : Option ResetCause). Ok (Took r)) row.came.told;
     })
 
 -- the header fault in front was taken
 pub took_fault : (events : List Event) (effects : List Effect) (old new : Peering) (subcode : ℕ) (taken : Result (Option ResetCause) memory.OutOfMemory) (result : Result Turn RunFault)
-    → StandsFor events effects old → IsFaulty old.intake.framer subcode
-    → SameBut old new → new.intake.framer ≡ [] → new.intake.waiting ≡ [] → new.intake.taking ≡ false
+    → StandsFor events effects (peer_of old) → IsFaulty old.reassembly.framer subcode
+    → SameBut (peer_of old) (peer_of new) → new.reassembly.framer ≡ [] → new.reassembly.waiting ≡ [] → new.reassembly.receiving ≡ false
     → ((before : List Effect) → HoldsAll before old.rib → IfOk taken (TookRow old.session (fsm.HeaderFault subcode) before new.session new.rib))
-    → result ≡ answer_of taken → HadMemory result → TookItem events effects new result
-took_fault events effects old new subcode taken result stands is same framer waiting taking took answer had =
-    let stretch = stretch_at_end None events in
-    let front = fault_pending stretch old.intake.framer old.intake.waiting stands.pending subcode old.intake.taking is stands.stretch in
-    answered (TookItem events effects new) taken result (TookRow old.session (fsm.HeaderFault subcode) effects new.session new.rib) (took effects stands.routes) answer had
+    → result ≡ answer_of taken → HadMemory result → TookItem events effects (peer_of new) result
+took_fault events effects old new subcode taken result stands is same framer waiting receiving took answer had =
+    let connection = connection_at_end None events in
+    let front = fault_pending connection old.reassembly.framer old.reassembly.waiting stands.pending subcode old.reassembly.receiving is stands.connection in
+    answered (TookItem events effects (peer_of new)) taken result (TookRow old.session (fsm.HeaderFault subcode) effects new.session new.rib) (took effects stands.routes) answer had
     (λ reset row. record {
       effect = row.outcome.1;
-      stands = stands_after_pending events effects old new row.outcome reset (bad_header subcode) [] stands same front.0
-          (row.row, row.step, row.limited) row.came (holds_none_of false stretch new framer waiting taking front.1);
+      stands = stands_after_pending events effects (peer_of old) (peer_of new) row.outcome reset (bad_header subcode) [] stands same front.0
+          (row.row, row.step, row.limited) row.came (holds_none_of false connection new framer waiting receiving front.1);
       told = ap (λ (r : Option ResetCause). Ok (Took r)) row.came.told;
     })
 
 -- the transport came up
 pub took_up : (events : List Event) (effects : List Effect) (old new : Peering) (taken : Result (Option ResetCause) memory.OutOfMemory) (result : Result Turn RunFault)
-    → StandsFor events effects old → IsShort old.intake.framer → old.intake.waiting ≡ []
-    → SameBut old new → new.intake.framer ≡ [] → new.intake.waiting ≡ [] → new.intake.taking ≡ true
+    → StandsFor events effects (peer_of old) → IsShort old.reassembly.framer → old.reassembly.waiting ≡ []
+    → SameBut (peer_of old) (peer_of new) → new.reassembly.framer ≡ [] → new.reassembly.waiting ≡ [] → new.reassembly.receiving ≡ true
     → ((before : List Effect) → HoldsAll before old.rib → IfOk taken (TookRow old.session fsm.Up before new.session new.rib))
-    → result ≡ answer_of taken → HadMemory result → TookItem (events ++ up ∷ []) effects new result
+    → result ≡ answer_of taken → HadMemory result → TookItem (events ++ up ∷ []) effects (peer_of new) result
 unfolding brought
-took_up events effects old new taken result stands short none same framer waiting taking took answer had =
-    answered (TookItem (events ++ up ∷ []) effects new) taken result (TookRow old.session fsm.Up effects new.session new.rib) (took effects stands.routes) answer had
+took_up events effects old new taken result stands short none same framer waiting receiving took answer had =
+    answered (TookItem (events ++ up ∷ []) effects (peer_of new)) taken result (TookRow old.session fsm.Up effects new.session new.rib) (took effects stands.routes) answer had
     (λ reset row. record {
       effect = row.outcome.1;
-      stands = stands_after_event events up effects old new row.outcome reset came_up stands same (idle events effects old stands short none) refl (octet_count-append events (up ∷ []) ∙ add-zero (octet_count events))
-          (row.row, row.step, row.limited) row.came (holds_none_of true (Some []) new framer waiting taking stretch_begun);
+      stands = stands_after_event events up effects (peer_of old) (peer_of new) row.outcome reset came_up stands same (idle events effects old stands short none) refl (octet_count-append events (up ∷ []) ∙ add-zero (octet_count events))
+          (row.row, row.step, row.limited) row.came (holds_none_of true (Some []) new framer waiting receiving connection_begun);
       told = ap (λ (r : Option ResetCause). Ok (Took r)) row.came.told;
     })
 
 -- the transport went down
 pub took_down : (events : List Event) (effects : List Effect) (old new : Peering) (taken : Result (Option ResetCause) memory.OutOfMemory) (result : Result Turn RunFault)
-    → StandsFor events effects old → IsShort old.intake.framer → old.intake.waiting ≡ []
-    → SameBut old new → new.intake.framer ≡ [] → new.intake.waiting ≡ [] → new.intake.taking ≡ false
+    → StandsFor events effects (peer_of old) → IsShort old.reassembly.framer → old.reassembly.waiting ≡ []
+    → SameBut (peer_of old) (peer_of new) → new.reassembly.framer ≡ [] → new.reassembly.waiting ≡ [] → new.reassembly.receiving ≡ false
     → ((before : List Effect) → HoldsAll before old.rib → IfOk taken (TookRow old.session fsm.Down before new.session new.rib))
-    → result ≡ answer_of taken → HadMemory result → TookItem (events ++ down ∷ []) effects new result
+    → result ≡ answer_of taken → HadMemory result → TookItem (events ++ down ∷ []) effects (peer_of new) result
 unfolding brought
-took_down events effects old new taken result stands short none same framer waiting taking took answer had =
-    answered (TookItem (events ++ down ∷ []) effects new) taken result (TookRow old.session fsm.Down effects new.session new.rib) (took effects stands.routes) answer had
+took_down events effects old new taken result stands short none same framer waiting receiving took answer had =
+    answered (TookItem (events ++ down ∷ []) effects (peer_of new)) taken result (TookRow old.session fsm.Down effects new.session new.rib) (took effects stands.routes) answer had
     (λ reset row. record {
       effect = row.outcome.1;
-      stands = stands_after_event events down effects old new row.outcome reset went_down stands same (idle events effects old stands short none) refl (octet_count-append events (down ∷ []) ∙ add-zero (octet_count events))
-          (row.row, row.step, row.limited) row.came (holds_none_of false None new framer waiting taking (refl, refl));
+      stands = stands_after_event events down effects (peer_of old) (peer_of new) row.outcome reset went_down stands same (idle events effects old stands short none) refl (octet_count-append events (down ∷ []) ∙ add-zero (octet_count events))
+          (row.row, row.step, row.limited) row.came (holds_none_of false None new framer waiting receiving (refl, refl));
       told = ap (λ (r : Option ResetCause). Ok (Took r)) row.came.told;
     })
 
 -- seconds passed
 pub took_seconds : (events : List Event) (effects : List Effect) (seconds : ℕ) (old new : Peering) (taken : Result (Option ResetCause) memory.OutOfMemory) (result : Result Turn RunFault)
-    → StandsFor events effects old → IsShort old.intake.framer → old.intake.waiting ≡ []
-    → SameBut old new → new.intake ≡ old.intake
+    → StandsFor events effects (peer_of old) → IsShort old.reassembly.framer → old.reassembly.waiting ≡ []
+    → SameBut (peer_of old) (peer_of new) → new.reassembly ≡ old.reassembly
     → ((before : List Effect) → HoldsAll before old.rib → IfOk taken (TookRow old.session (fsm.Elapsed seconds) before new.session new.rib))
-    → result ≡ answer_of taken → HadMemory result → TookItem (events ++ elapsed seconds ∷ []) effects new result
+    → result ≡ answer_of taken → HadMemory result → TookItem (events ++ elapsed seconds ∷ []) effects (peer_of new) result
 unfolding brought
-took_seconds events effects seconds old new taken result stands short none same intake took answer had =
-    let stretch = stretch_at_end None events in
+took_seconds events effects seconds old new taken result stands short none same reassembly took answer had =
+    let connection = connection_at_end None events in
     let idle_now = idle events effects old stands short none in
-    let before : HoldsStretch old.intake.taking stretch (held old.intake) [] = subst (HoldsStretch old.intake.taking stretch (held old.intake)) idle_now stands.stretch in
-    answered (TookItem (events ++ elapsed seconds ∷ []) effects new) taken result (TookRow old.session (fsm.Elapsed seconds) effects new.session new.rib) (took effects stands.routes) answer had
+    let before : HoldsConnection old.reassembly.receiving connection (held_octets old.reassembly) [] = subst (HoldsConnection old.reassembly.receiving connection (held_octets old.reassembly)) idle_now stands.connection in
+    answered (TookItem (events ++ elapsed seconds ∷ []) effects (peer_of new)) taken result (TookRow old.session (fsm.Elapsed seconds) effects new.session new.rib) (took effects stands.routes) answer had
     (λ reset row. record {
       effect = row.outcome.1;
-      stands = stands_after_event events (elapsed seconds) effects old new row.outcome reset (passed seconds) stands same idle_now (seconds_bring stretch seconds) (octet_count-append events (elapsed seconds ∷ []) ∙ add-zero (octet_count events))
+      stands = stands_after_event events (elapsed seconds) effects (peer_of old) (peer_of new) row.outcome reset (passed seconds) stands same idle_now (seconds_bring connection seconds) (octet_count-append events (elapsed seconds ∷ []) ∙ add-zero (octet_count events))
           (row.row, row.step, row.limited) row.came
-          (subst (λ (s : Stretch). HoldsStretch new.intake.taking s (held new.intake) []) (sym (seconds_stay stretch seconds)) (subst (λ (i : Intake). HoldsStretch i.taking stretch (held i) []) (sym intake) before));
+          (subst (λ (s : Connection). HoldsConnection new.reassembly.receiving s (held_octets new.reassembly) []) (sym (seconds_stay connection seconds)) (subst (λ (i : Reassembly). HoldsConnection i.receiving connection (held_octets i) []) (sym reassembly) before));
       told = ap (λ (r : Option ResetCause). Ok (Took r)) row.came.told;
     })
 
 -- octets came
 pub stands_with_octets : (events : List Event) (effects : List Effect) (piece : List ℕ) (old new : Peering)
-    → StandsFor events effects old → IsShort old.intake.framer → old.intake.waiting ≡ []
+    → StandsFor events effects (peer_of old) → IsShort old.reassembly.framer → old.reassembly.waiting ≡ []
     → new.session ≡ old.session → new.rib ≡ old.rib → new.octets ≡ old.octets + length piece
-    → new.intake.framer ≡ old.intake.framer → new.intake.taking ≡ old.intake.taking
-    → (old.intake.taking ≡ true → new.intake.waiting ≡ piece) → (old.intake.taking ≡ false → new.intake.waiting ≡ [])
-    → StandsFor (events ++ octets piece ∷ []) effects new
-stands_with_octets events effects piece old new stands short none session rib count framer taking kept dropped =
-    let stretch = stretch_at_end None events in
+    → new.reassembly.framer ≡ old.reassembly.framer → new.reassembly.receiving ≡ old.reassembly.receiving
+    → (old.reassembly.receiving ≡ true → new.reassembly.waiting ≡ piece) → (old.reassembly.receiving ≡ false → new.reassembly.waiting ≡ [])
+    → StandsFor (events ++ octets piece ∷ []) effects (peer_of new)
+stands_with_octets events effects piece old new stands short none session rib count framer receiving kept dropped =
+    let connection = connection_at_end None events in
     let idle_now = idle events effects old stands short none in
-    let before : HoldsStretch old.intake.taking stretch old.intake.framer [] = subst (λ (t : List ℕ). HoldsStretch old.intake.taking stretch t []) (ap (λ (t : List ℕ). old.intake.framer ++ t) none ∙ append-nil old.intake.framer) (subst (HoldsStretch old.intake.taking stretch (held old.intake)) idle_now stands.stretch) in
-    let now = octets_hold stretch old.intake.framer piece old.intake.taking new.intake.waiting kept dropped short before in
+    let before : HoldsConnection old.reassembly.receiving connection old.reassembly.framer [] = subst (λ (t : List ℕ). HoldsConnection old.reassembly.receiving connection t []) (ap (λ (t : List ℕ). old.reassembly.framer ++ t) none ∙ append-nil old.reassembly.framer) (subst (HoldsConnection old.reassembly.receiving connection (held_octets old.reassembly)) idle_now stands.connection) in
+    let now = octets_hold connection old.reassembly.framer piece old.reassembly.receiving new.reassembly.waiting kept dropped short before in
     let took : stands.took ++ stands.pending ≡ stands.took = ap (λ (xs : List Item). stands.took ++ xs) idle_now ∙ append-nil stands.took in
     record {
       took = stands.took;
-      pending = brought stretch (octets piece);
+      pending = brought connection (octets piece);
       items = items_one_more events (octets piece) stands.took (subst (AreItems events) took stands.items);
       runs = subst (λ (s : Standing). Runs s.config stands.took effects s.state) (sym session) stands.runs;
       counted = ap (λ (s : Standing). s.items) session ∙ stands.counted;
       routes = subst (HoldsAll effects) (sym rib) stands.routes;
-      stretch =
-          subst (λ (s : Stretch). HoldsStretch new.intake.taking s (held new.intake) (brought stretch (octets piece))) (sym (stretch_at_end-append None events (octets piece ∷ [])))
-          (subst (λ (t : List ℕ). HoldsStretch new.intake.taking (stretch_after stretch (octets piece)) (t ++ new.intake.waiting) (brought stretch (octets piece))) (sym framer)
-          (subst (λ (b : Bool). HoldsStretch b (stretch_after stretch (octets piece)) (old.intake.framer ++ new.intake.waiting) (brought stretch (octets piece))) (sym taking) now));
+      connection =
+          subst (λ (s : Connection). HoldsConnection new.reassembly.receiving s (held_octets new.reassembly) (brought connection (octets piece))) (sym (connection_at_end-append None events (octets piece ∷ [])))
+          (subst (λ (t : List ℕ). HoldsConnection new.reassembly.receiving (connection_after connection (octets piece)) (t ++ new.reassembly.waiting) (brought connection (octets piece))) (sym framer)
+          (subst (λ (b : Bool). HoldsConnection b (connection_after connection (octets piece)) (old.reassembly.framer ++ new.reassembly.waiting) (brought connection (octets piece))) (sym receiving) now));
       octets = count ∙ ap (λ n. n + length piece) stands.octets ∙ ap (λ n. octet_count events + n) (sym (add-zero (length piece))) ∙ sym (octet_count-append events (octets piece ∷ []));
     }
 
@@ -231,7 +233,7 @@ gave_none None = tt
 gave_none (Some events) = refl
 
 -- the items and octets of a turn that took an item
-pub counts_item : (result : Result Turn RunFault) (old new : Peering) (limits : Limits) → IsItem result → CountsItem old new → Counts result old new limits
+pub counts_item : (result : Result Turn RunFault) (old new : PeerState) (limits : Limits) → IsItem result → CountsItem old new → Counts result old new limits
 counts_item (Ok (Took reset)) old new limits is counts = (counts.items, counts.octets, counts.ended)
 counts_item (Ok Octets) old new limits is counts = absurd is
 counts_item (Ok (turn.End rest)) old new limits is counts = absurd is
@@ -242,7 +244,7 @@ counts_item (Err (OctetLimit session)) old new limits is counts = let clash : Oc
 counts_item (Err OutOfMemory) old new limits is counts = (counts.items, counts.octets)
 
 -- a turn that took an item of an event that came, or of no new one
-pub turned_item : (events gave : List Event) (effects : List Effect) (old_left new_left : Option (List Event)) (result : Result Turn RunFault) (new : Peering)
+pub turned_item : (events gave : List Event) (effects : List Effect) (old_left new_left : Option (List Event)) (result : Result Turn RunFault) (new : PeerState)
     → Gave old_left gave new_left → TookItem (events ++ gave) effects new result → Turned events effects old_left new_left result new
 turned_item events gave effects old_left new_left result new told took = record {
   gave = gave;
@@ -252,13 +254,13 @@ turned_item events gave effects old_left new_left result new told took = record 
   shows = subst (λ (r : Result Turn RunFault). Shows r (took.effect ∷ []) (events ++ gave) old_left new_left) (sym took.told) (took.effect, refl, refl);
 }
 
-pub turned_held : (events : List Event) (effects : List Effect) (left : Option (List Event)) (result : Result Turn RunFault) (new : Peering)
+pub turned_held : (events : List Event) (effects : List Effect) (left : Option (List Event)) (result : Result Turn RunFault) (new : PeerState)
     → TookItem events effects new result → Turned events effects left left result new
 turned_held events effects left result new took =
     turned_item events [] effects left left result new (gave_none left) (subst (λ (es : List Event). TookItem es effects new result) (sym (append-nil events)) took)
 
 -- a turn that took no item
-pub turned_none : (events gave : List Event) (effects : List Effect) (old_left new_left : Option (List Event)) (result : Result Turn RunFault) (new : Peering)
+pub turned_none : (events gave : List Event) (effects : List Effect) (old_left new_left : Option (List Event)) (result : Result Turn RunFault) (new : PeerState)
     → Gave old_left gave new_left → StandsFor (events ++ gave) effects new → Shows result [] (events ++ gave) old_left new_left → Turned events effects old_left new_left result new
 turned_none events gave effects old_left new_left result new told stands shows = record {
   gave = gave;
@@ -268,15 +270,15 @@ turned_none events gave effects old_left new_left result new told stands shows =
   shows = shows;
 }
 
-pub no_event : (events : List Event) (effects : List Effect) (new : Peering) → StandsFor events effects new → StandsFor (events ++ []) effects new
+pub no_event : (events : List Event) (effects : List Effect) (new : PeerState) → StandsFor events effects new → StandsFor (events ++ []) effects new
 no_event events effects new stands = subst (λ (es : List Event). StandsFor es effects new) (sym (append-nil events)) stands
 
 -- a session with the same session, octets and routes stands for the same
-pub stands_alike : (events : List Event) (effects : List Effect) (old new : Peering) → StandsFor events effects old
-    → new.session ≡ old.session → new.rib ≡ old.rib → new.octets ≡ old.octets → held new.intake ≡ held old.intake → new.intake.taking ≡ old.intake.taking
+pub stands_alike : (events : List Event) (effects : List Effect) (old new : PeerState) → StandsFor events effects old
+    → new.session ≡ old.session → new.routes ≡ old.routes → new.octets ≡ old.octets → new.held ≡ old.held → new.receiving ≡ old.receiving
     → StandsFor events effects new
-stands_alike events effects old new stands session rib count same taking =
-    let stretch = stretch_at_end None events in
+stands_alike events effects old new stands session rib count same receiving =
+    let connection = connection_at_end None events in
     record {
       took = stands.took;
       pending = stands.pending;
@@ -284,26 +286,26 @@ stands_alike events effects old new stands session rib count same taking =
       runs = subst (λ (s : Standing). Runs s.config stands.took effects s.state) (sym session) stands.runs;
       counted = ap (λ (s : Standing). s.items) session ∙ stands.counted;
       routes = subst (HoldsAll effects) (sym rib) stands.routes;
-      stretch = subst (λ (b : Bool). HoldsStretch b stretch (held new.intake) stands.pending) (sym taking) (subst (λ (t : List ℕ). HoldsStretch old.intake.taking stretch t stands.pending) (sym same) stands.stretch);
+      connection = subst (λ (b : Bool). HoldsConnection b connection (new.held) stands.pending) (sym receiving) (subst (λ (t : List ℕ). HoldsConnection old.receiving connection t stands.pending) (sym same) stands.connection);
       octets = count ∙ stands.octets;
     }
 
-rest_of_stretch : (stretch : Stretch) (part : List ℕ) (taking : Bool) → IsShort part → HoldsStretch taking stretch part [] → LeavesOctets stretch (length part)
-rest_of_stretch None part true short holds = absurd holds
-rest_of_stretch (Some text) part true short holds =
+rest_of_connection : (connection : Connection) (part : List ℕ) (receiving : Bool) → IsShort part → HoldsConnection receiving connection part [] → LeavesOctets connection (length part)
+rest_of_connection None part true short holds = absurd holds
+rest_of_connection (Some text) part true short holds =
     (record { messages = holds.used; rest = part; end = Clean; framed = record { parts = holds.parts; each = holds.each; ends = short } }, refl)
-rest_of_stretch None part false short holds = ap length holds.0
-rest_of_stretch (Some text) part false short holds =
+rest_of_connection None part false short holds = ap length holds.0
+rest_of_connection (Some text) part false short holds =
     let is = holds.2 in
     (is.framing, ap length holds.0 ∙ sym (ap (λ (e : End). left_behind e is.framing.rest) is.fault))
 
 -- at the end of the events the part of a message that is held is what is left
-pub rest_is : (events : List Event) (effects : List Effect) (old : Peering) → StandsFor events effects old → IsShort old.intake.framer → old.intake.waiting ≡ [] → IsRest events (length old.intake.framer)
+pub rest_is : (events : List Event) (effects : List Effect) (old : Peering) → StandsFor events effects (peer_of old) → IsShort old.reassembly.framer → old.reassembly.waiting ≡ [] → IsRest events (length old.reassembly.framer)
 rest_is events effects old stands short none =
     let idle_now = idle events effects old stands short none in
-    let all : held old.intake ≡ old.intake.framer = ap (λ (t : List ℕ). old.intake.framer ++ t) none ∙ append-nil old.intake.framer in
-    rest_of_stretch (stretch_at_end None events) old.intake.framer old.intake.taking short
-    (subst (λ (t : List ℕ). HoldsStretch old.intake.taking (stretch_at_end None events) t []) all (subst (HoldsStretch old.intake.taking (stretch_at_end None events) (held old.intake)) idle_now stands.stretch))
+    let all : held_octets old.reassembly ≡ old.reassembly.framer = ap (λ (t : List ℕ). old.reassembly.framer ++ t) none ∙ append-nil old.reassembly.framer in
+    rest_of_connection (connection_at_end None events) old.reassembly.framer old.reassembly.receiving short
+    (subst (λ (t : List ℕ). HoldsConnection old.reassembly.receiving (connection_at_end None events) t []) all (subst (HoldsConnection old.reassembly.receiving (connection_at_end None events) (held_octets old.reassembly)) idle_now stands.connection))
 
 -- a feed that came to its end has nothing left
 pub emptied : (old new : Option (List Event)) (piece : List ℕ) → Fills old new (Ok feed.End) piece → IsEmptied old new
@@ -311,9 +313,9 @@ emptied None new piece fills = tt
 emptied (Some old) new piece fills = fills.ends.1
 
 -- a session beside whose octets none came
-pub stands_unfilled : (events : List Event) (effects : List Effect) (old new : Peering) → StandsFor events effects old → old.intake.waiting ≡ []
-    → new.session ≡ old.session → new.rib ≡ old.rib → new.octets ≡ old.octets → new.intake.framer ≡ old.intake.framer → new.intake.waiting ≡ [] → new.intake.taking ≡ old.intake.taking
-    → StandsFor events effects new
-stands_unfilled events effects old new stands none session rib count framer waiting taking =
-    stands_alike events effects old new stands session rib count
-    (ap (λ (t : List ℕ). t ++ new.intake.waiting) framer ∙ ap (λ (t : List ℕ). old.intake.framer ++ t) (waiting ∙ sym none)) taking
+pub stands_unfilled : (events : List Event) (effects : List Effect) (old new : Peering) → StandsFor events effects (peer_of old) → old.reassembly.waiting ≡ []
+    → new.session ≡ old.session → new.rib ≡ old.rib → new.octets ≡ old.octets → new.reassembly.framer ≡ old.reassembly.framer → new.reassembly.waiting ≡ [] → new.reassembly.receiving ≡ old.reassembly.receiving
+    → StandsFor events effects (peer_of new)
+stands_unfilled events effects old new stands none session rib count framer waiting receiving =
+    stands_alike events effects (peer_of old) (peer_of new) stands session rib count
+    (ap (λ (t : List ℕ). t ++ new.reassembly.waiting) framer ∙ ap (λ (t : List ℕ). old.reassembly.framer ++ t) (waiting ∙ sym none)) receiving

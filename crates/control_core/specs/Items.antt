@@ -11,23 +11,23 @@ pub data Item : Type 0 where
   went_down : Item
   passed : ℕ → Item
 
--- a stretch is what comes from the transport's coming up until it comes up anew or goes down:
--- its text is the octets of it so far; outside a stretch there is none
-abbrev pub Stretch : Type 0
-Stretch = Option (List ℕ)
+-- a connection is what comes from the transport's coming up until it comes up anew or goes down:
+-- its text is the octets of it so far; outside a connection there is none
+abbrev pub Connection : Type 0
+Connection = Option (List ℕ)
 
--- the stretch after one more event
-abbrev pub stretch_after : Stretch → Event → Stretch
-stretch_after stretch up = Some []
-stretch_after None (octets piece) = None
-stretch_after (Some text) (octets piece) = Some (text ++ piece)
-stretch_after stretch down = None
-stretch_after stretch (elapsed seconds) = stretch
+-- the connection after one more event
+abbrev pub connection_after : Connection → Event → Connection
+connection_after connection up = Some []
+connection_after None (octets piece) = None
+connection_after (Some text) (octets piece) = Some (text ++ piece)
+connection_after connection down = None
+connection_after connection (elapsed seconds) = connection
 
--- the stretch that reaches the end of the events
-abbrev pub stretch_at_end : Stretch → List Event → Stretch
-stretch_at_end stretch [] = stretch
-stretch_at_end stretch (event ∷ events) = stretch_at_end (stretch_after stretch event) events
+-- the connection that reaches the end of the events
+abbrev pub connection_at_end : Connection → List Event → Connection
+connection_at_end connection [] = connection
+connection_at_end connection (event ∷ events) = connection_at_end (connection_after connection event) events
 
 -- the end of a text is an item where it is a header fault, and none where it is less than a message
 abbrev pub end_items : End → List Item
@@ -45,19 +45,19 @@ pub record BringsItems (text piece : List ℕ) (brought : List Item) : Type 0 wh
   pub without : AreItemsOf text before
   pub with_it : AreItemsOf (text ++ piece) (before ++ brought)
 
--- the items that stand at one event; octets outside a stretch bring none
-abbrev pub Brings : Stretch → Event → List Item → Type 0
-Brings stretch up items = items ≡ came_up ∷ []
+-- the items that stand at one event; octets outside a connection bring none
+abbrev pub Brings : Connection → Event → List Item → Type 0
+Brings connection up items = items ≡ came_up ∷ []
 Brings None (octets piece) items = items ≡ []
 Brings (Some text) (octets piece) items = BringsItems text piece items
-Brings stretch down items = items ≡ went_down ∷ []
-Brings stretch (elapsed seconds) items = items ≡ passed seconds ∷ []
+Brings connection down items = items ≡ went_down ∷ []
+Brings connection (elapsed seconds) items = items ≡ passed seconds ∷ []
 
--- the items of events behind a stretch: those that stand at the first, and then those of the others
-abbrev pub AreItemsAfter : Stretch → List Event → List Item → Type 0
-AreItemsAfter stretch [] items = items ≡ []
-AreItemsAfter stretch (event ∷ events) items =
-    (now : List Item) × (later : List Item) × (items ≡ now ++ later) × Brings stretch event now × AreItemsAfter (stretch_after stretch event) events later
+-- the items of events behind a connection: those that stand at the first, and then those of the others
+abbrev pub AreItemsAfter : Connection → List Event → List Item → Type 0
+AreItemsAfter connection [] items = items ≡ []
+AreItemsAfter connection (event ∷ events) items =
+    (now : List Item) × (later : List Item) × (items ≡ now ++ later) × Brings connection event now × AreItemsAfter (connection_after connection event) events later
 
 -- the items of all events of a feed, in their order; at the beginning no transport is up
 abbrev pub AreItems : List Event → List Item → Type 0
@@ -68,14 +68,14 @@ abbrev pub left_behind : End → List ℕ → ℕ
 left_behind Clean rest = length rest
 left_behind (Fault subcode) rest = 0
 
--- how many octets a stretch leaves behind its last whole message, and none where no transport is up
-abbrev pub LeavesOctets : Stretch → ℕ → Type 0
+-- how many octets a connection leaves behind its last whole message, and none where no transport is up
+abbrev pub LeavesOctets : Connection → ℕ → Type 0
 LeavesOctets None count = count ≡ 0
 LeavesOctets (Some text) count = (framing : Framing text) × (count ≡ left_behind framing.end framing.rest)
 
 -- how many octets are left at the end of the events
 abbrev pub IsRest : List Event → ℕ → Type 0
-IsRest events count = LeavesOctets (stretch_at_end None events) count
+IsRest events count = LeavesOctets (connection_at_end None events) count
 
 -- the events with each octet in an event of its own
 abbrev pub spread : List Event → List Event

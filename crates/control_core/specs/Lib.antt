@@ -1,12 +1,14 @@
 pub mod Controls
 pub mod Differences
 pub mod Effects
+pub mod FeedCalls
+pub mod History
+pub mod ItemSteps
 pub mod Items
+pub mod Peers
 pub mod Pulls
 pub mod Runs
-pub mod Standing
+pub mod States
 pub mod Table
-pub mod Taking
 pub mod TurnParts
 pub mod Turns
-pub mod Waiting

@@ -6,14 +6,14 @@ use Rattle.feed_io.specs.Events.{Event}
 use Rattle.session_fsm.specs.declared.items.Effect.{Effect}
 use Rattle.control_core.specs.declared.limits.RunFault.{RunFault}
 use Rattle.control_core.specs.declared.limits.RunFault.TheVariants.{OutOfMemory}
-use Rattle.control_core.specs.declared.peering.Peering.{Peering}
+use Rattle.control_core.specs.States.{PeerState}
 use Rattle.control_core.specs.declared.peering.Turn.{Turn}
 use Rattle.control_core.specs.declared.peering.Turn.TheVariants.{Took, Octets, End}
-use Rattle.control_core.specs.Standing.{StandsFor}
-use Rattle.control_core.specs.Taking.{reset_of}
+use Rattle.control_core.specs.History.{StandsFor}
+use Rattle.control_core.specs.ItemSteps.{reset_of}
 
 -- one item of these events was taken, and its effect is told
-pub record TookItem (events : List Event) (effects : List Effect) (new : Peering) (result : Result Turn RunFault) : Type 0 where
+pub record TookItem (events : List Event) (effects : List Effect) (new : PeerState) (result : Result Turn RunFault) : Type 0 where
   pub effect : Effect
   pub stands : StandsFor events (effects ++ effect ∷ []) new
   pub told : result ≡ Ok (Took (reset_of effect))
@@ -24,7 +24,7 @@ answer_of (Ok reset) = Ok (Took reset)
 answer_of (Err failed) = Err OutOfMemory
 
 -- one item was counted, and no octet
-pub record CountsItem (old new : Peering) : Type 0 where
+pub record CountsItem (old new : PeerState) : Type 0 where
   pub items : new.session.items ≡ old.session.items + 1
   pub octets : new.octets ≡ old.octets
   pub ended : new.ended ≡ old.ended

@@ -1,16 +1,12 @@
 //! What a control does: it pulls the items of a session, publishes its routes under numbers, and
 //! judges sources by what was published last.
-ghost use Rattle.std.specs.Prelude.{◌≡◌, ◌⊎◌, ◌+◌, ◌-◌, ◌^◌, ◌<◌, ◌≤◌, ◌↔◌, [], ℕ, List, Err, IfErr, IfOk, OnErr, OnOk, true, false};
+ghost use Rattle.std.specs.Prelude.{◌≡◌, ◌⊎◌, ◌-◌, ◌^◌, ◌<◌, ◌≤◌, ◌↔◌, Ok, Err, IfOk, OnErr, OnOk, true, false};
 ghost use Rattle.urpf_base.specs.Address.{Block, Covers};
-ghost use Rattle.urpf_base.specs.Faults.{Rose};
+ghost use Rattle.urpf_base.specs.Faults.{CountsFault};
 ghost use Rattle.urpf_base.specs.Lists.{Has};
 ghost use Rattle.adj_rib.specs.Routes.{prefixes_of};
-ghost use Rattle.feed_io.specs.Events.{Event};
-ghost use Rattle.session_fsm.specs.declared.items.Effect.{Effect};
 ghost use Rattle.control_core.specs.Controls.{IsOpened, KeepsPublished, Publishes};
-ghost use Rattle.control_core.specs.Pulls.{EndsBy, Pulled, StaysWithin, Stopped, TakesAtMost};
-ghost use Rattle.control_core.specs.Standing.{StandsFor};
-ghost use Rattle.control_core.specs.Turns.{HadMemory};
+ghost use Rattle.control_core.specs.Pulls.{Pull};
 
 use crate::control::Control;
 use crate::differences::{came_or_went, copied};
@@ -22,8 +18,11 @@ use feed_io::Feed;
 use std::alloc::Global;
 use urpf_base::{Addr, OutOfMemory, SessionConfig, Sink, Verdict};
 
+/// The number of the one session.
+const FIRST_SESSION: u32 = 0;
+
 impl Control {
-    /// A session that took no item, and no routes, which are published as number 0.
+    /// Session 0, which took no item, and no routes, which are published as number 0.
     pub fn new(alloc: Global, config: SessionConfig, limits: Limits) -> Result<Control, OutOfMemory>
         requires items { limits.items ≤ ITEM_LIMIT }
         requires octets { limits.octets ≤ OCTET_LIMIT }
@@ -31,51 +30,40 @@ impl Control {
     {
         Ok(Control {
             alloc,
-            peering: Peering::new(alloc, config),
+            peering: Peering::new(alloc, FIRST_SESSION, config),
             published: AdjRib::new(alloc),
             number: 0,
             limits,
-            spent: false,
+            exhausted: false,
         })
     }
 
     /// Takes the next `count` items of the session, or all, and offers the line of each reset and
-    /// that of the end to the sink. A pull after the end does nothing.
+    /// that of the end to the sink. A pull after the end does nothing, and neither does one after want
+    /// of memory.
     pub fn pull<F: Feed, K: Sink>(
         &mut self,
         feed: &mut F,
         count: Option<u64>,
         out: &mut K,
     ) -> Result<(), RunFault>
-        // What it takes, and what it writes.
-        ensures pulled { (events : List Event) (effects : List Effect)
-            → StandsFor events effects self.old.peering → HadMemory result
-            → Pulled events effects (F.left feed.old) (F.left feed.new)
-            (K.held out.old) (K.held out.new) result self.old.peering self.new.peering }
-        ensures stopped { (events : List Event) (effects : List Effect)
-            → StandsFor events effects self.old.peering → result ≡ Err RunFault.OutOfMemory
-            → Stopped events effects self.old.peering.session.config (F.left feed.old)
-            (K.held out.old) (K.held out.new) }
-        ensures within { TakesAtMost count self.old.peering self.new.peering }
-        ensures limited { StaysWithin self.old.limits self.old.peering self.new.peering }
-        ensures after { self.old.peering.ended ≡ true
-            → IfErr result (λ fault. fault ≡ RunFault.OutOfMemory) }
-        // When it ends so.
-        ensures ends { EndsBy count self.old.limits self.old.peering self.new.peering result }
-        ensures read { (s : ℕ) → result ≡ Err (RunFault.ReadFault s)
-            → Rose (F.faults feed.old) (F.faults feed.new) }
-        ensures write { result ≡ Err RunFault.WriteFault
-            → Rose (K.faults out.old) (K.faults out.new) }
-        ensures later { (F.faults feed.old ≤ F.faults feed.new)
-            × (K.faults out.old ≤ K.faults out.new) }
-        // Want of memory stays, and nothing else does anything then.
-        ensures memory { result ≡ Err RunFault.OutOfMemory → self.new.spent ≡ true }
-        ensures spent { self.old.spent ≡ true → result ≡ Err RunFault.OutOfMemory }
-        ensures able { HadMemory result → self.new.spent ≡ false }
-        // What stays.
+        ensures pull { self.old.exhausted ≡ false
+            → Pull count self.old.limits (F.left feed.old) (F.left feed.new)
+            (K.held out.old) (K.held out.new) result self.old.peer self.new.peer }
         ensures kept { KeepsPublished self.old self.new }
+        ensures feed { CountsFault (result ≡ Err (RunFault.ReadFault self.old.peer.number))
+            (F.faults feed.old) (F.faults feed.new) }
+        ensures sink { CountsFault (result ≡ Err RunFault.WriteFault)
+            (K.faults out.old) (K.faults out.new) }
+        // After the end nothing is done.
+        ensures after { self.old.exhausted ≡ false → self.old.peer.ended ≡ true
+            → (result ≡ Ok tt) × (self.new ≡ self.old) × (feed.new ≡ feed.old) × (out.new ≡ out.old) }
+        // Want of memory stays, and nothing is done then.
+        ensures memory { self.new.exhausted ≡ true ↔ result ≡ Err RunFault.OutOfMemory }
+        ensures exhausted { self.old.exhausted ≡ true → (result ≡ Err RunFault.OutOfMemory)
+            × (self.new ≡ self.old) × (feed.new ≡ feed.old) × (out.new ≡ out.old) }
     {
-        if self.spent {
+        if self.exhausted {
             return Err(RunFault::OutOfMemory);
         }
         if self.peering.ended {
@@ -83,7 +71,7 @@ impl Control {
         }
         let result = pull_items(&mut self.peering, &self.limits, feed, count, out);
         if let Err(RunFault::OutOfMemory) = result {
-            self.spent = true;
+            self.exhausted = true;
         }
         result
     }
@@ -93,17 +81,16 @@ impl Control {
     pub fn publish(&mut self) -> Result<(u64, u64), OutOfMemory>
         requires { self.old.number < 2 ^ 64 - 1 }
         ensures ok { IfOk result (Publishes self.old self.new) }
-        ensures able { OnOk result ((self.old.spent ≡ false) × (self.new.spent ≡ false)) }
-        ensures err { OnErr result (self.new.spent ≡ true) }
+        ensures able { OnOk result ((self.old.exhausted ≡ false) × (self.new.exhausted ≡ false)) }
+        ensures err { OnErr result (self.new.exhausted ≡ true) }
         ensures unpublished { OnErr result (KeepsPublished self.old self.new) }
-        ensures peering { self.new.peering ≡ self.old.peering }
-        ensures limits { self.new.limits ≡ self.old.limits }
+        ensures peer { OnErr result (self.new.peer ≡ self.old.peer) }
     {
-        if self.spent {
+        if self.exhausted {
             return Err(OutOfMemory);
         }
         let Ok(next) = copied(self.alloc, &self.peering.rib) else {
-            self.spent = true;
+            self.exhausted = true;
             return Err(OutOfMemory);
         };
         let cells = came_or_went(&self.published, &next);
@@ -121,7 +108,7 @@ impl Control {
 
     /// How many items the session took.
     pub fn items(&self) -> u64
-        ensures { result ≡ self.now.peering.session.items }
+        ensures { result ≡ self.now.peer.session.items }
     {
         self.peering.session.items()
     }

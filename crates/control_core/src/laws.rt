@@ -22,6 +22,12 @@ pub fn one_list_of_items()
         → AreItems events a → AreItems events b → a ≡ b }
 {}
 
+/// At the end of events so many octets are left, and no other number of them.
+pub fn one_rest()
+    ensures some { (events : List Event) → (count : ℕ) × IsRest events count }
+    ensures only { (events : List Event) (a b : ℕ) → IsRest events a → IsRest events b → a ≡ b }
+{}
+
 /// Octets that come in two events and not in one change neither the items nor what is left, nor
 /// does any other way to cut them.
 pub fn cuts_do_not_count()
@@ -33,6 +39,8 @@ pub fn cuts_do_not_count()
         ↔ IsRest (before ++ octets first ∷ octets second ∷ after) count }
     ensures all { (events others : List Event) (items : List Item)
         → SameButCuts events others → AreItems events items → AreItems others items }
+    ensures all_left { (events others : List Event) (count : ℕ)
+        → SameButCuts events others → IsRest events count → IsRest others count }
 {}
 
 /// The items of the first events are the first items.

@@ -5,15 +5,16 @@ ghost use Rattle.bgp_wire.specs.Frames.{IsMessage, IsShort, IsFaulty};
 ghost use Rattle.bgp_wire.specs.Header.{type_field};
 ghost use Rattle.bgp_wire.specs.States.{FitsKind, kind_of};
 ghost use Rattle.feed_io.specs.Events.{Event, up, down, elapsed};
-ghost use Rattle.urpf_base.specs.Faults.{Rose};
+ghost use Rattle.urpf_base.specs.Faults.{CountsFault};
 ghost use Rattle.session_fsm.specs.declared.items.Effect.{Effect};
-ghost use Rattle.control_core.specs.Standing.{StandsFor};
+ghost use Rattle.control_core.specs.History.{StandsFor};
+ghost use Rattle.control_core.specs.Peers.{peer_of};
 ghost use Rattle.control_core.specs.TurnParts.{CountsItem, IsItem, TookItem, answer_of};
 ghost use Rattle.control_core.specs.Turns.{Counts, HadMemory, IsTurnFault, Turned};
 
-use crate::intake::Intake;
+use crate::item_step::take_item;
 use crate::limits::{Limits, RunFault};
-use crate::taking::take_item;
+use crate::reassembly::Reassembly;
 use adj_rib::AdjRib;
 use bgp_wire::{FrameState, MsgKind};
 use feed_io::{Feed, FeedEvent};
@@ -24,8 +25,10 @@ use urpf_base::{Failed, OutOfMemory, ResetCause, SessionConfig};
 /// A session, what it holds of its feed, and its routes.
 #[derive(Drop)]
 pub struct Peering {
+    /// The number of the session, from 0.
+    pub number: u32,
     pub session: Session,
-    pub intake: Intake,
+    pub reassembly: Reassembly,
     pub rib: AdjRib,
     /// The octets that the feed gave.
     pub octets: u64,
@@ -46,15 +49,17 @@ pub enum Turn {
 
 impl Peering {
     /// A session that took no item of its feed.
-    pub fn new(alloc: Global, config: SessionConfig) -> Peering
-        ensures stands { StandsFor [] [] result }
+    pub fn new(alloc: Global, number: u32, config: SessionConfig) -> Peering
+        ensures stands { StandsFor [] [] (peer_of result) }
+        ensures number { result.number ≡ number }
         ensures config { result.session.config ≡ config }
         ensures items { result.session.items ≡ 0 }
         ensures ended { result.ended ≡ false }
     {
         Peering {
+            number,
             session: Session::new(config),
-            intake: Intake::new(),
+            reassembly: Reassembly::new(),
             rib: AdjRib::new(alloc),
             octets: 0,
             ended: false,
@@ -65,16 +70,16 @@ impl Peering {
     pub fn turn<F: Feed>(&mut self, feed: &mut F, limits: &Limits) -> Result<Turn, RunFault>
         requires { self.old.session.items < 2 ^ 63 }
         ensures stands { (events : List Event) (effects : List Effect)
-            → StandsFor events effects self.old → HadMemory result
-            → Turned events effects (F.left feed.old) (F.left feed.new) result self.new }
-        ensures counts { Counts result self.old self.new limits.now }
-        ensures fault { IfErr result IsTurnFault }
-        ensures read { result ≡ Err (RunFault.ReadFault 0)
-            → Rose (F.faults feed.old) (F.faults feed.new) }
-        ensures later { F.faults feed.old ≤ F.faults feed.new }
+            → StandsFor events effects (peer_of self.old) → HadMemory result
+            → Turned events effects (F.left feed.old) (F.left feed.new) result (peer_of self.new) }
+        ensures counts { Counts result (peer_of self.old) (peer_of self.new) limits.now }
+        ensures fault { IfErr result (IsTurnFault self.old.number) }
+        ensures feed { CountsFault (result ≡ Err (RunFault.ReadFault self.old.number))
+            (F.faults feed.old) (F.faults feed.new) }
+        ensures number { self.new.number ≡ self.old.number }
         ensures config { self.new.session.config ≡ self.old.session.config }
     {
-        match self.intake.front() {
+        match self.reassembly.front() {
             FrameState::Whole(kind) => self.take_message(kind),
             FrameState::Fault(subcode) => self.take_fault(subcode),
             FrameState::Partial(part) => self.ask(feed, limits, part),
@@ -84,59 +89,61 @@ impl Peering {
     /// The message in the framer is taken.
     fn take_message(&mut self, kind: MsgKind) -> Result<Turn, RunFault>
         requires counted { self.old.session.items < 2 ^ 63 }
-        requires message { IsMessage self.old.intake.framer }
-        requires kind { kind ≡ kind_of (type_field self.old.intake.framer) }
-        requires fits { FitsKind kind (length self.old.intake.framer) }
+        requires message { IsMessage self.old.reassembly.framer }
+        requires kind { kind ≡ kind_of (type_field self.old.reassembly.framer) }
+        requires fits { FitsKind kind (length self.old.reassembly.framer) }
         ensures took { (events : List Event) (effects : List Effect)
-            → StandsFor events effects self.old → HadMemory result
-            → TookItem events effects self.new result }
-        ensures counts { CountsItem self.old self.new }
+            → StandsFor events effects (peer_of self.old) → HadMemory result
+            → TookItem events effects (peer_of self.new) result }
+        ensures counts { CountsItem (peer_of self.old) (peer_of self.new) }
         ensures item { IsItem result }
+        ensures number { self.new.number ≡ self.old.number }
         ensures config { self.new.session.config ≡ self.old.session.config }
     {
-        let item = Item::Message(kind, self.intake.framer.body());
+        let item = Item::Message(kind, self.reassembly.framer.body());
         let taken = take_item(&mut self.session, &mut self.rib, item);
-        self.intake.framer.next();
+        self.reassembly.framer.next();
         answer(taken)
     }
 
     /// The fault of the header in the framer is taken. What comes behind it is dropped.
     fn take_fault(&mut self, subcode: u8) -> Result<Turn, RunFault>
         requires counted { self.old.session.items < 2 ^ 63 }
-        requires faulty { IsFaulty self.old.intake.framer subcode }
+        requires faulty { IsFaulty self.old.reassembly.framer subcode }
         ensures took { (events : List Event) (effects : List Effect)
-            → StandsFor events effects self.old → HadMemory result
-            → TookItem events effects self.new result }
-        ensures counts { CountsItem self.old self.new }
+            → StandsFor events effects (peer_of self.old) → HadMemory result
+            → TookItem events effects (peer_of self.new) result }
+        ensures counts { CountsItem (peer_of self.old) (peer_of self.new) }
         ensures item { IsItem result }
+        ensures number { self.new.number ≡ self.old.number }
         ensures config { self.new.session.config ≡ self.old.session.config }
     {
         let taken = take_item(&mut self.session, &mut self.rib, Item::HeaderFault(subcode));
-        self.intake.stop();
+        self.reassembly.stop();
         answer(taken)
     }
 
     /// Asks the feed for its next event. The octets held are a part of a message, of so many octets.
     fn ask<F: Feed>(&mut self, feed: &mut F, limits: &Limits, part: u16) -> Result<Turn, RunFault>
         requires counted { self.old.session.items < 2 ^ 63 }
-        requires short { IsShort self.old.intake.framer }
-        requires part { part ≡ length self.old.intake.framer }
-        requires none { self.old.intake.waiting ≡ [] }
+        requires short { IsShort self.old.reassembly.framer }
+        requires part { part ≡ length self.old.reassembly.framer }
+        requires none { self.old.reassembly.waiting ≡ [] }
         ensures stands { (events : List Event) (effects : List Effect)
-            → StandsFor events effects self.old → HadMemory result
-            → Turned events effects (F.left feed.old) (F.left feed.new) result self.new }
-        ensures counts { Counts result self.old self.new limits.now }
-        ensures fault { IfErr result IsTurnFault }
-        ensures read { result ≡ Err (RunFault.ReadFault 0)
-            → Rose (F.faults feed.old) (F.faults feed.new) }
-        ensures later { F.faults feed.old ≤ F.faults feed.new }
+            → StandsFor events effects (peer_of self.old) → HadMemory result
+            → Turned events effects (F.left feed.old) (F.left feed.new) result (peer_of self.new) }
+        ensures counts { Counts result (peer_of self.old) (peer_of self.new) limits.now }
+        ensures fault { IfErr result (IsTurnFault self.old.number) }
+        ensures feed { CountsFault (result ≡ Err (RunFault.ReadFault self.old.number))
+            (F.faults feed.old) (F.faults feed.new) }
+        ensures number { self.new.number ≡ self.old.number }
         ensures config { self.new.session.config ≡ self.old.session.config }
     {
         let room = limits.octets.saturating_sub(self.octets);
         if room == 0 {
-            return Err(RunFault::OctetLimit(0));
+            return Err(RunFault::OctetLimit(self.number));
         }
-        match self.intake.waiting.fill(feed, room) {
+        match self.reassembly.waiting.fill(feed, room) {
             Ok(FeedEvent::Up) => self.come_up(),
             Ok(FeedEvent::Octets(count)) => Ok(self.hold(count)),
             Ok(FeedEvent::Down) => self.go_down(),
@@ -145,74 +152,78 @@ impl Peering {
                 self.ended = true;
                 Ok(Turn::End(u64::from(part)))
             }
-            Err(Failed) => Err(RunFault::ReadFault(0)),
+            Err(Failed) => Err(RunFault::ReadFault(self.number)),
         }
     }
 
     /// The transport came up.
     fn come_up(&mut self) -> Result<Turn, RunFault>
         requires counted { self.old.session.items < 2 ^ 63 }
-        requires short { IsShort self.old.intake.framer }
-        requires none { self.old.intake.waiting ≡ [] }
+        requires short { IsShort self.old.reassembly.framer }
+        requires none { self.old.reassembly.waiting ≡ [] }
         ensures took { (events : List Event) (effects : List Effect)
-            → StandsFor events effects self.old → HadMemory result
-            → TookItem (events ++ up ∷ []) effects self.new result }
-        ensures counts { CountsItem self.old self.new }
+            → StandsFor events effects (peer_of self.old) → HadMemory result
+            → TookItem (events ++ up ∷ []) effects (peer_of self.new) result }
+        ensures counts { CountsItem (peer_of self.old) (peer_of self.new) }
         ensures item { IsItem result }
+        ensures number { self.new.number ≡ self.old.number }
         ensures config { self.new.session.config ≡ self.old.session.config }
     {
-        self.intake.begin();
+        self.reassembly.begin();
         answer(take_item(&mut self.session, &mut self.rib, Item::Up))
     }
 
     /// The transport went down.
     fn go_down(&mut self) -> Result<Turn, RunFault>
         requires counted { self.old.session.items < 2 ^ 63 }
-        requires short { IsShort self.old.intake.framer }
-        requires none { self.old.intake.waiting ≡ [] }
+        requires short { IsShort self.old.reassembly.framer }
+        requires none { self.old.reassembly.waiting ≡ [] }
         ensures took { (events : List Event) (effects : List Effect)
-            → StandsFor events effects self.old → HadMemory result
-            → TookItem (events ++ down ∷ []) effects self.new result }
-        ensures counts { CountsItem self.old self.new }
+            → StandsFor events effects (peer_of self.old) → HadMemory result
+            → TookItem (events ++ down ∷ []) effects (peer_of self.new) result }
+        ensures counts { CountsItem (peer_of self.old) (peer_of self.new) }
         ensures item { IsItem result }
+        ensures number { self.new.number ≡ self.old.number }
         ensures config { self.new.session.config ≡ self.old.session.config }
     {
-        self.intake.stop();
+        self.reassembly.stop();
         answer(take_item(&mut self.session, &mut self.rib, Item::Down))
     }
 
     /// So many seconds passed.
     fn pass(&mut self, seconds: u32) -> Result<Turn, RunFault>
         requires counted { self.old.session.items < 2 ^ 63 }
-        requires short { IsShort self.old.intake.framer }
-        requires none { self.old.intake.waiting ≡ [] }
+        requires short { IsShort self.old.reassembly.framer }
+        requires none { self.old.reassembly.waiting ≡ [] }
         ensures took { (events : List Event) (effects : List Effect)
-            → StandsFor events effects self.old → HadMemory result
-            → TookItem (events ++ elapsed seconds ∷ []) effects self.new result }
-        ensures counts { CountsItem self.old self.new }
+            → StandsFor events effects (peer_of self.old) → HadMemory result
+            → TookItem (events ++ elapsed seconds ∷ []) effects (peer_of self.new) result }
+        ensures counts { CountsItem (peer_of self.old) (peer_of self.new) }
         ensures item { IsItem result }
+        ensures number { self.new.number ≡ self.old.number }
         ensures config { self.new.session.config ≡ self.old.session.config }
     {
         answer(take_item(&mut self.session, &mut self.rib, Item::Elapsed(seconds)))
     }
 
-    /// Counts so many octets that came, and drops them where they belong to no stretch.
+    /// Counts so many octets that came, and drops them where they belong to no connection.
     fn hold(&mut self, count: usize) -> Turn
         requires { self.old.octets + count < 2 ^ 64 }
         ensures turn { result ≡ Turn.Octets }
         ensures octets { self.new.octets ≡ self.old.octets + count }
-        ensures kept { self.old.intake.taking ≡ true
-            → self.new.intake.waiting ≡ self.old.intake.waiting }
-        ensures dropped { self.old.intake.taking ≡ false → self.new.intake.waiting ≡ [] }
-        ensures framer { self.new.intake.framer ≡ self.old.intake.framer }
-        ensures taking { self.new.intake.taking ≡ self.old.intake.taking }
+        ensures kept { self.old.reassembly.receiving ≡ true
+            → self.new.reassembly.waiting ≡ self.old.reassembly.waiting }
+        ensures dropped { self.old.reassembly.receiving ≡ false → self.new.reassembly.waiting ≡ [] }
+        ensures framer { self.new.reassembly.framer ≡ self.old.reassembly.framer }
+        ensures receiving { self.new.reassembly.receiving ≡ self.old.reassembly.receiving }
+        ensures number { self.new.number ≡ self.old.number }
         ensures session { self.new.session ≡ self.old.session }
         ensures rib { self.new.rib ≡ self.old.rib }
         ensures ended { self.new.ended ≡ self.old.ended }
     {
         self.octets += count as u64;
-        if !self.intake.taking {
-            self.intake.waiting.clear();
+        if !self.reassembly.receiving {
+            self.reassembly.waiting.clear();
         }
         Turn::Octets
     }

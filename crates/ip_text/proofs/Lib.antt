@@ -5,4 +5,5 @@ pub mod Marks
 pub mod Printed
 pub mod Shifts
 pub mod Sides
+pub mod Slashes
 pub mod Spelling

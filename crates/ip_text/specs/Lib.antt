@@ -1,4 +1,5 @@
 pub mod Groups
 pub mod Numbers
+pub mod Prefixes
 pub mod Sides
 pub mod Texts

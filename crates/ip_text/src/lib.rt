@@ -5,9 +5,11 @@
 mod cutting;
 mod groups;
 mod numbers;
+mod prefixes;
 mod printing;
 mod reading;
 
 pub use numbers::read_number;
+pub use prefixes::{read_asn, read_prefix};
 pub use printing::{put_addr, put_number};
 pub use reading::read_addr;

@@ -6,16 +6,16 @@ use Rattle.feed_io.specs.Events.{Event, up, octets, down, elapsed}
 use Rattle.urpf_base.specs.declared.sessions.SessionConfig.{SessionConfig}
 use Rattle.session_fsm.specs.declared.items.Effect.{Effect}
 use Rattle.session_fsm.specs.declared.states.State.{State}
-use Rattle.control_core.specs.declared.peering.Peering.{Peering}
-use Rattle.control_core.specs.Items.{Item, AreItems, IsRest, LeavesOctets, SameButCuts, Stretch, spread, octet_count, stretch_at_end}
+use Rattle.control_core.specs.States.{PeerState}
+use Rattle.control_core.specs.Items.{Item, AreItems, IsRest, LeavesOctets, SameButCuts, Connection, spread, octet_count, connection_at_end}
 use Rattle.control_core.specs.Runs.{RunsFrom, Runs}
-use Rattle.control_core.specs.Standing.{StandsFor, held}
-use Rattle.control_core.specs.Waiting.{Gave}
-use Rattle.control_core.proofs.ItemLaws.{front_items, items_by_cuts, left_once, same_stretch, spread-append}
-use Rattle.control_core.proofs.StandingLaws.{none_pending}
+use Rattle.control_core.specs.History.{StandsFor}
+use Rattle.control_core.specs.FeedCalls.{Gave}
+use Rattle.control_core.proofs.ItemLaws.{front_items, items_by_cuts, left_once, same_connection, spread-append}
+use Rattle.control_core.proofs.HistoryLaws.{none_pending}
 use Rattle.control_core.proofs.TurnLaws.{octet_count-append}
 use Rattle.urpf_cli.specs.RunText.{Inputs, HasEffects, session_0}
-use Rattle.urpf_cli.specs.Running.{Informs}
+use Rattle.urpf_cli.specs.Runs.{Run}
 
 -- each item has one effect
 pub runs_length : (config : SessionConfig) (before : List Effect) (state : State) (items : List Item) (effects : List Effect) (last : State) → RunsFrom config before state items effects last → length effects ≡ length before + length items
@@ -28,25 +28,25 @@ pub record Known (inputs : Inputs) (effects : List Effect) : Type 0 where
   pub has : HasEffects inputs (length effects) effects
   pub within : length effects ≤ length inputs.items
 
-pub known : (all gave rest : List Event) (inputs : Inputs) (effects : List Effect) (peering : Peering) → Informs all inputs → SameButCuts all (gave ++ rest) → (stands : StandsFor gave effects peering) → peering.session.config ≡ session_0 → Known inputs effects
-known all gave rest inputs effects peering informs same stands config =
-    let later = front_items gave rest (stands.took ++ stands.pending) inputs.items stands.items (items_by_cuts all (gave ++ rest) inputs.items same informs.items) in
-    let parts : inputs.items ≡ stands.took ++ (stands.pending ++ later.0) = later.1 ∙ append_assoc stands.took stands.pending later.0 in
+pub known : (run : Run) (gave rest : List Event) (effects : List Effect) (peering : PeerState) → SameButCuts run.all (gave ++ rest) → (stands : StandsFor gave effects peering) → peering.session.config ≡ session_0 → Known run.inputs effects
+known run gave rest effects peering same stands config =
+    let later = front_items gave rest (stands.took ++ stands.pending) run.inputs.items stands.items (items_by_cuts run.all (gave ++ rest) run.inputs.items same run.items) in
+    let parts : run.inputs.items ≡ stands.took ++ (stands.pending ++ later.0) = later.1 ∙ append_assoc stands.took stands.pending later.0 in
     let count : length effects ≡ length stands.took = omega (arith, runs_length peering.session.config [] _ stands.took effects peering.session.state stands.runs) in
-    let front : take (length effects) inputs.items ≡ stands.took = ap (take (length effects)) parts ∙ take_at stands.took (stands.pending ++ later.0) (length effects) (sym count) in
+    let front : take (length effects) run.inputs.items ≡ stands.took = ap (take (length effects)) parts ∙ take_at stands.took (stands.pending ++ later.0) (length effects) (sym count) in
     record {
       has = (peering.session.state, subst (λ (xs : List Item). Runs session_0 xs effects peering.session.state) (sym front) (subst (λ (k : SessionConfig). Runs k stands.took effects peering.session.state) config stands.runs));
       within = omega (arith, count, ap length parts, length-append stands.took (stands.pending ++ later.0));
     }
 
 -- where the feed has nothing left and no item is still to be taken, all items were taken
-pub known_all : (all gave : List Event) (inputs : Inputs) (effects : List Effect) (peering : Peering) → Informs all inputs → SameButCuts all (gave ++ []) → (stands : StandsFor gave effects peering) → IsShort (held peering.intake) → length effects ≡ length inputs.items
-known_all all gave inputs effects peering informs same stands short =
-    let later = front_items gave [] (stands.took ++ stands.pending) inputs.items stands.items (items_by_cuts all (gave ++ []) inputs.items same informs.items) in
-    let others = front_items (gave ++ []) [] inputs.items (stands.took ++ stands.pending) (items_by_cuts all (gave ++ []) inputs.items same informs.items) (subst (λ (es : List Event). AreItems es (stands.took ++ stands.pending)) (sym (append-nil (gave ++ []) ∙ append-nil gave)) stands.items) in
-    let none = none_pending peering.intake.taking (stretch_at_end None gave) (held peering.intake) stands.pending short stands.stretch in
+pub known_all : (run : Run) (gave : List Event) (effects : List Effect) (peering : PeerState) → SameButCuts run.all (gave ++ []) → (stands : StandsFor gave effects peering) → IsShort peering.held → length effects ≡ length run.inputs.items
+known_all run gave effects peering same stands short =
+    let later = front_items gave [] (stands.took ++ stands.pending) run.inputs.items stands.items (items_by_cuts run.all (gave ++ []) run.inputs.items same run.items) in
+    let others = front_items (gave ++ []) [] run.inputs.items (stands.took ++ stands.pending) (items_by_cuts run.all (gave ++ []) run.inputs.items same run.items) (subst (λ (es : List Event). AreItems es (stands.took ++ stands.pending)) (sym (append-nil (gave ++ []) ∙ append-nil gave)) stands.items) in
+    let none = none_pending peering.receiving (connection_at_end None gave) peering.held stands.pending short stands.connection in
     let count : length effects ≡ length stands.took = omega (arith, runs_length peering.session.config [] _ stands.took effects peering.session.state stands.runs) in
-    omega (arith, count, ap length none, ap length later.1, ap length others.1, length-append (stands.took ++ stands.pending) later.0, length-append inputs.items others.0, length-append stands.took stands.pending)
+    omega (arith, count, ap length none, ap length later.1, ap length others.1, length-append (stands.took ++ stands.pending) later.0, length-append run.inputs.items others.0, length-append stands.took stands.pending)
 
 -- what a feed that tells its events has left after a call
 pub left_after : (rest gave : List Event) (new : Option (List Event)) → Gave (Some rest) gave new → (later : List Event) × (new ≡ Some later) × SameButCuts rest (gave ++ later)
@@ -59,10 +59,10 @@ all_parts all gave rest more later same told =
     same ∙ spread-append gave rest ∙ ap (λ (es : List Event). spread gave ++ es) told ∙ sym (spread-append gave (more ++ later)) ∙ ap spread (sym (append_assoc gave more later))
 
 -- the octets left behind at the end of all events
-pub rest_of_all : (all gave : List Event) (inputs : Inputs) (rest : ℕ) → Informs all inputs → SameButCuts all (gave ++ []) → IsRest gave rest → rest ≡ inputs.rest
-rest_of_all all gave inputs rest informs same is =
-    let stretch : stretch_at_end None gave ≡ stretch_at_end None all = ap (stretch_at_end None) (sym (append-nil gave)) ∙ sym (same_stretch None all (gave ++ []) same) in
-    left_once (stretch_at_end None all) rest inputs.rest (subst (λ (s : Stretch). LeavesOctets s rest) stretch is) informs.rest
+pub rest_of_all : (run : Run) (gave : List Event) (rest : ℕ) → SameButCuts run.all (gave ++ []) → IsRest gave rest → rest ≡ run.inputs.rest
+rest_of_all run gave rest same is =
+    let connection : connection_at_end None gave ≡ connection_at_end None run.all = ap (connection_at_end None) (sym (append-nil gave)) ∙ sym (same_connection None run.all (gave ++ []) same) in
+    left_once (connection_at_end None run.all) rest run.inputs.rest (subst (λ (s : Connection). LeavesOctets s rest) connection is) run.rest
 
 -- how many octets came does not depend on cuts
 octet_count-singles : (piece : List ℕ) (later : List Event) → octet_count (map (λ octet. octets (octet ∷ [])) piece ++ later) ≡ length piece + octet_count later

@@ -1,34 +1,28 @@
 -- Where a run reaches a limit of its session, out of what its pulls say.
-use Rattle.std.proofs.Common.{◌≡◌, ◌⊎◌, ℕ, ◌+◌, ◌-◌, ◌<◌, ◌≤◌, Bool, true, false, List, [], ◌∷◌, ◌++◌, length, take, drop, Option, Some, None, Result, Ok, Err, IfSome, refl, sym, ap, subst, ◌∙◌, arith, append_assoc, inl, inr, length-append, slice_get}
+use Rattle.std.proofs.Common.{◌≡◌, ℕ, ◌+◌, ◌-◌, ◌<◌, ◌≤◌, Bool, true, false, List, [], ◌∷◌, ◌++◌, length, take, drop, Option, Some, None, Err, refl, sym, ap, subst, ◌∙◌, arith, inl, inr, length-append, slice_get}
 use Rattle.std.specs.Prelude.{nat_lt, ◌||◌}
-use Rattle.std.proofs.lemmas.List.{append-nil, take-append-drop}
+use Rattle.std.proofs.lemmas.List.{append-nil}
 use Rattle.feed_io.specs.Events.{Event}
 use Rattle.runbook.specs.declared.lines.BookLine.{BookLine}
 use Rattle.runbook.specs.declared.lines.BookLine.TheVariants.{Pull, Publish, Check}
-use Rattle.runbook.specs.Book.{IsBook}
-use Rattle.control_core.specs.declared.control.Control.{Control}
+use Rattle.control_core.specs.States.{ControlState}
 use Rattle.control_core.specs.declared.limits.Limits.{Limits}
 use Rattle.control_core.specs.declared.limits.TheConstants.{ITEM_LIMIT, OCTET_LIMIT}
 use Rattle.control_core.specs.declared.limits.RunFault.{RunFault}
 use Rattle.control_core.specs.declared.limits.RunFault.TheVariants as refusal
-use Rattle.control_core.specs.Items.{Item, AreItems, SameButCuts, octet_count, stretch_at_end}
-use Rattle.control_core.specs.Controls.{KeepsPublished}
-use Rattle.control_core.specs.Standing.{StandsFor, held}
-use Rattle.control_core.specs.Turns.{HadMemory}
-use Rattle.control_core.specs.Waiting.{Gave}
-use Rattle.control_core.specs.Pulls.{asks_more, Pulled, EndsBy, TakesAtMost}
+use Rattle.control_core.specs.Items.{Item, AreItems, connection_at_end}
+use Rattle.control_core.specs.FeedCalls.{Gave}
+use Rattle.control_core.specs.Pulls.{asks_more}
+use Rattle.control_core.specs.Pulls as pulls
 use Rattle.control_core.proofs.ItemLaws.{front_items, items_by_cuts}
-use Rattle.control_core.proofs.StandingLaws.{none_pending}
-use Rattle.urpf_cli.specs.Stops.{status_of_run}
-use Rattle.urpf_cli.specs.RunText.{Inputs, Position, opening, pulled, published, position_after}
-use Rattle.urpf_cli.specs.Running.{Informs, Stands, lines_in}
-use Rattle.urpf_cli.specs.Limited.{AsksPast, FillsItems, FillsOctets, FillsNone, OfGiven, EndsAtLimit, IsAtLimit, TellsLimit, PullFillsItems, PullFillsOctets, LineFills, StopsAtLimit}
-use Rattle.urpf_cli.specs.declared.status.Status.{Status}
-use Rattle.urpf_cli.specs.declared.status.Status.TheVariants.{Done, Usage, BadBook, TooLong, ReadFault, WriteFault, ItemLimit, OctetLimit, BadSession, Unsupported, OutOfMemory}
+use Rattle.control_core.proofs.HistoryLaws.{none_pending}
+use Rattle.urpf_cli.specs.RunText.{Position, opening, pulled, published, position_after}
+use Rattle.urpf_cli.specs.Runs.{IsAt, Reaches, Run, StopsAtLimit, lines_in, total}
+use Rattle.urpf_cli.specs.Limits.{AsksPast, FillsItems, FillsOctets, FillsNone, LineFills, OfGiven, PullFillsItems, PullFillsOctets}
 use Rattle.urpf_cli.proofs.Knowing.{octets_within, runs_length}
 use Rattle.urpf_cli.proofs.Leading.{at_most, below_is, below_not, is_below, or_true}
 use Rattle.urpf_cli.proofs.Pulling.{further}
-use Rattle.urpf_cli.proofs.Runs.{line_more}
+use Rattle.urpf_cli.proofs.Runs.{parted}
 
 -- once the end was met, it stays so
 ended_stays : (total : ℕ) (lines : List BookLine) (at : Position) → at.ended ≡ true → (position_after total lines at).ended ≡ true
@@ -94,78 +88,61 @@ asks_first : (session count : Option ℕ) (lines : List BookLine) (items : ℕ) 
 asks_first session None lines items asks = tt
 asks_first session (Some count) lines items asks = inl (below_is items count asks)
 
--- a pull that came to a limit
-pull_limited : (all : List Event) (inputs : Inputs) (at : Position) (session count : Option ℕ) (old new : Control) (old_left new_left : Option (List Event)) (old_held new_held : Option (List ℕ)) (fault : RunFault)
-    → Informs all inputs → (s : Stands all inputs at old old_left) → Pulled s.gave s.effects old_left new_left old_held new_held (Err fault) old.peering new.peering
-    → KeepsPublished old new → TakesAtMost count old.peering new.peering → EndsBy count old.limits old.peering new.peering (Err fault)
-    → StopsAtLimit all at (Pull session count) new_left (status_of_run fault)
-pull_limited all inputs at session count old new old_left new_left old_held new_held (refusal.ReadFault n) informs s p kept most ends = tt
-pull_limited all inputs at session count old new old_left new_left old_held new_held refusal.WriteFault informs s p kept most ends = tt
-pull_limited all inputs at session count old new old_left new_left old_held new_held (refusal.ItemLimit n) informs s p kept most ends =
-    let f = further all inputs at old old_left new_left old_held new_held (Err (refusal.ItemLimit n)) new.peering informs s p kept.config in
-    let limit : ITEM_LIMIT ≤ new.peering.session.items = subst (λ (l : Limits). l.items ≤ new.peering.session.items) s.limits ends.2 in
-    let took : length f.effects ≡ length f.stands.took = omega (arith, runs_length new.peering.session.config [] _ f.stands.took f.effects new.peering.session.state f.stands.runs) in
+-- the limit that a pull came to
+pub pull_limited : (run : Run) (at : Position) (session count : Option ℕ) (old new : ControlState) (old_left new_left : Option (List Event)) (old_held new_held : Option (List ℕ)) (fault : RunFault)
+    → (s : IsAt run at old old_left) → pulls.Pull count old.limits old_left new_left old_held new_held (Err fault) old.peer new.peer
+    → Reaches (LineFills (PullFillsItems at) run.all (Pull session count) new_left) (LineFills (PullFillsOctets at) run.all (Pull session count) new_left) fault
+pull_limited run at session count old new old_left new_left old_held new_held (refusal.ReadFault n) s pull = tt
+pull_limited run at session count old new old_left new_left old_held new_held refusal.WriteFault s pull = tt
+pull_limited run at session count old new old_left new_left old_held new_held (refusal.ItemLimit n) s pull =
+    let p = pull.pulled s.gave s.effects s.stands tt in
+    let f = further run at old old_left new_left old_held new_held (Err (refusal.ItemLimit n)) new.peer s p pull.config in
+    let limit : ITEM_LIMIT ≤ new.peer.session.items = subst (λ (l : Limits). l.items ≤ new.peer.session.items) s.limits pull.ends.2 in
+    let took : length f.effects ≡ length f.stands.took = omega (arith, runs_length new.peer.session.config [] _ f.stands.took f.effects new.peer.session.state f.stands.runs) in
     record {
       session = session;
       count = count;
       pulls = refl;
       given = record {
         gave = f.gave;
-        told = subst (λ (l : Option (List Event)). Gave (Some all) f.gave l) (sym f.left_is) f.same;
+        told = subst (λ (l : Option (List Event)). Gave (Some run.all) f.gave l) (sym f.left_is) f.same;
         fills = record {
           items = f.stands.took ++ f.stands.pending;
           are = f.stands.items;
           full = omega (arith, limit, f.stands.counted, took, length-append f.stands.took f.stands.pending);
-          unmet = sym s.ended ∙ ends.1.0;
+          unmet = sym s.ended ∙ pull.ends.1.0;
           from = s.within;
-          asks = asks_fewer count (new.peering.session.items - old.peering.session.items) (ITEM_LIMIT - at.taken) (omega (arith, limit, s.taken, s.stands.counted)) ends.1.2;
+          asks = asks_fewer count (new.peer.session.items - old.peer.session.items) (ITEM_LIMIT - at.taken) (omega (arith, limit, s.taken, s.stands.counted)) pull.ends.1.2;
         };
       };
     }
-pull_limited all inputs at session count old new old_left new_left old_held new_held (refusal.OctetLimit n) informs s p kept most ends =
-    let f = further all inputs at old old_left new_left old_held new_held (Err (refusal.OctetLimit n)) new.peering informs s p kept.config in
-    let few : new.peering.session.items < ITEM_LIMIT = subst (λ (l : Limits). new.peering.session.items < l.items) s.limits ends.2 in
-    let limit : OCTET_LIMIT ≤ new.peering.octets = subst (λ (l : Limits). l.octets ≤ new.peering.octets) s.limits ends.3 in
-    let none = none_pending new.peering.intake.taking (stretch_at_end None f.gave) (held new.peering.intake) f.stands.pending ends.4 f.stands.stretch in
-    let took : length f.effects ≡ length f.stands.took = omega (arith, runs_length new.peering.session.config [] _ f.stands.took f.effects new.peering.session.state f.stands.runs) in
-    let items : length (f.stands.took ++ f.stands.pending) ≡ new.peering.session.items = omega (arith, f.stands.counted, took, ap length none, length-append f.stands.took f.stands.pending) in
+pull_limited run at session count old new old_left new_left old_held new_held (refusal.OctetLimit n) s pull =
+    let p = pull.pulled s.gave s.effects s.stands tt in
+    let f = further run at old old_left new_left old_held new_held (Err (refusal.OctetLimit n)) new.peer s p pull.config in
+    let few : new.peer.session.items < ITEM_LIMIT = subst (λ (l : Limits). new.peer.session.items < l.items) s.limits pull.ends.2 in
+    let limit : OCTET_LIMIT ≤ new.peer.octets = subst (λ (l : Limits). l.octets ≤ new.peer.octets) s.limits pull.ends.3 in
+    let none = none_pending new.peer.receiving (connection_at_end None f.gave) new.peer.held f.stands.pending pull.ends.4 f.stands.connection in
+    let took : length f.effects ≡ length f.stands.took = omega (arith, runs_length new.peer.session.config [] _ f.stands.took f.effects new.peer.session.state f.stands.runs) in
+    let items : length (f.stands.took ++ f.stands.pending) ≡ new.peer.session.items = omega (arith, f.stands.counted, took, ap length none, length-append f.stands.took f.stands.pending) in
     record {
       session = session;
       count = count;
       pulls = refl;
       given = record {
         gave = f.gave;
-        told = subst (λ (l : Option (List Event)). Gave (Some all) f.gave l) (sym f.left_is) f.same;
+        told = subst (λ (l : Option (List Event)). Gave (Some run.all) f.gave l) (sym f.left_is) f.same;
         fills = record {
           items = f.stands.took ++ f.stands.pending;
           are = f.stands.items;
           few = omega (arith, few, items);
           full = omega (arith, limit, f.stands.octets);
-          unmet = sym s.ended ∙ ends.1.0;
-          from = omega (arith, items, s.taken, s.stands.counted, (at_most count old.peering new.peering most).0);
-          asks = asks_fewer count (new.peering.session.items - old.peering.session.items) (length (f.stands.took ++ f.stands.pending) - at.taken) (omega (arith, items, s.taken, s.stands.counted)) ends.1.2;
+          unmet = sym s.ended ∙ pull.ends.1.0;
+          from = omega (arith, items, s.taken, s.stands.counted, (at_most count old.peer new.peer pull.most).0);
+          asks = asks_fewer count (new.peer.session.items - old.peer.session.items) (length (f.stands.took ++ f.stands.pending) - at.taken) (omega (arith, items, s.taken, s.stands.counted)) pull.ends.1.2;
         };
       };
     }
-pull_limited all inputs at session count old new old_left new_left old_held new_held refusal.OutOfMemory informs s p kept most ends = tt
-
--- the same, by whether memory ran out
-pub pull_limited_by : (all : List Event) (inputs : Inputs) (at : Position) (session count : Option ℕ) (old new : Control) (old_left new_left : Option (List Event)) (old_held new_held : Option (List ℕ)) (fault : RunFault)
-    → Informs all inputs → (s : Stands all inputs at old old_left)
-    → (HadMemory {T = Unit {0}} (Err fault) → Pulled s.gave s.effects old_left new_left old_held new_held (Err fault) old.peering new.peering)
-    → KeepsPublished old new → TakesAtMost count old.peering new.peering → EndsBy count old.limits old.peering new.peering (Err fault)
-    → StopsAtLimit all at (Pull session count) new_left (status_of_run fault)
-pull_limited_by all inputs at session count old new old_left new_left old_held new_held (refusal.ReadFault n) informs s p kept most ends = tt
-pull_limited_by all inputs at session count old new old_left new_left old_held new_held refusal.WriteFault informs s p kept most ends = tt
-pull_limited_by all inputs at session count old new old_left new_left old_held new_held (refusal.ItemLimit n) informs s p kept most ends = pull_limited all inputs at session count old new old_left new_left old_held new_held (refusal.ItemLimit n) informs s (p tt) kept most ends
-pull_limited_by all inputs at session count old new old_left new_left old_held new_held (refusal.OctetLimit n) informs s p kept most ends = pull_limited all inputs at session count old new old_left new_left old_held new_held (refusal.OctetLimit n) informs s (p tt) kept most ends
-pull_limited_by all inputs at session count old new old_left new_left old_held new_held refusal.OutOfMemory informs s p kept most ends = tt
-
--- the lines of a book, parted at one of them
-parted_at : (rows : List (ℕ × BookLine)) (k : ℕ) (row : ℕ × BookLine) → slice_get rows k ≡ Some row → take k (lines_in rows) ++ row.1 ∷ drop (k + 1) (lines_in rows) ≡ lines_in rows
-parted_at rows k row is =
-    let lines : List BookLine = lines_in rows in
-    sym (append_assoc (take k lines) (row.1 ∷ []) (drop (k + 1) lines)) ∙ ap (λ (ls : List BookLine). ls ++ drop (k + 1) lines) (sym (line_more rows k row is)) ∙ take-append-drop (k + 1) lines
+pull_limited run at session count old new old_left new_left old_held new_held refusal.OutOfMemory s pull = tt
 
 -- what the line at a position asks for past some items, the book asks for
 asks_here : (total : ℕ) (rows : List (ℕ × BookLine)) (k : ℕ) (row : ℕ × BookLine) (session count : Option ℕ) (items : ℕ) → slice_get rows k ≡ Some row → row.1 ≡ Pull session count
@@ -175,75 +152,57 @@ asks_here total rows k row session count items is pulls unmet asks =
     let left : ℕ = items - (position_after total (take k (lines_in rows)) opening).taken in
     let first : AsksPast (row.1 ∷ later) left = subst (λ (line : BookLine). AsksPast (line ∷ later) left) (sym pulls) (asks_first session count later left asks) in
     let whole : AsksPast (take k (lines_in rows) ++ row.1 ∷ later) (items - 0) = asks_on total (take k (lines_in rows)) (row.1 ∷ later) opening items unmet first in
-    subst (λ (lines : List BookLine). AsksPast lines items) (parted_at rows k row is) (subst (λ (n : ℕ). AsksPast (take k (lines_in rows) ++ row.1 ∷ later) n) (omega arith) whole)
+    subst (λ (lines : List BookLine). AsksPast lines items) (parted rows k row is) (subst (λ (n : ℕ). AsksPast (take k (lines_in rows) ++ row.1 ∷ later) n) (omega arith) whole)
 
 -- a line that came to a limit ends the run there
-pub line_limited : (all : List Event) (total : ℕ) (rows : List (ℕ × BookLine)) (k : ℕ) (row : ℕ × BookLine) (left : Option (List Event)) (status : Status) → slice_get rows k ≡ Some row
-    → StopsAtLimit all (position_after total (take k (lines_in rows)) opening) row.1 left status → (status ≡ Done → ⊥) → EndsAtLimit all (lines_in rows) left status
-line_limited all total rows k row left Done is stops fails = absurd (fails refl)
-line_limited all total rows k row left Usage is stops fails = tt
-line_limited all total rows k row left (BadBook number kind) is stops fails = tt
-line_limited all total rows k row left (TooLong object) is stops fails = tt
-line_limited all total rows k row left (ReadFault object) is stops fails = tt
-line_limited all total rows k row left WriteFault is stops fails = tt
-line_limited all total rows k row left (ItemLimit session) is stops fails =
+pub line_limited : (all : List Event) (total : ℕ) (rows : List (ℕ × BookLine)) (k : ℕ) (row : ℕ × BookLine) (left : Option (List Event)) (fault : RunFault) → slice_get rows k ≡ Some row
+    → Reaches (LineFills (PullFillsItems (position_after total (take k (lines_in rows)) opening)) all row.1 left) (LineFills (PullFillsOctets (position_after total (take k (lines_in rows)) opening)) all row.1 left) fault → StopsAtLimit all (lines_in rows) left fault
+line_limited all total rows k row left (refusal.ReadFault session) is stops = tt
+line_limited all total rows k row left refusal.WriteFault is stops = tt
+line_limited all total rows k row left (refusal.ItemLimit session) is stops =
     let fills = stops.given.fills in
     record {
       gave = stops.given.gave;
       told = stops.given.told;
       fills = record { items = fills.items; are = fills.are; full = fills.full; asks = asks_here total rows k row stops.session stops.count ITEM_LIMIT is stops.pulls fills.unmet fills.asks };
     }
-line_limited all total rows k row left (OctetLimit session) is stops fails =
+line_limited all total rows k row left (refusal.OctetLimit session) is stops =
     let fills = stops.given.fills in
     record {
       gave = stops.given.gave;
       told = stops.given.told;
       fills = record { items = fills.items; are = fills.are; few = fills.few; full = fills.full; asks = asks_here total rows k row stops.session stops.count (length fills.items) is stops.pulls fills.unmet fills.asks };
     }
-line_limited all total rows k row left (BadSession code sub place) is stops fails = tt
-line_limited all total rows k row left (Unsupported place) is stops fails = tt
-line_limited all total rows k row left OutOfMemory is stops fails = tt
+line_limited all total rows k row left refusal.OutOfMemory is stops = tt
 
 -- a run that came to the end of its lines reached no limit that they ask past
-pub none_filled : (all : List Event) (inputs : Inputs) (lines : List BookLine) (control : Control) (left : Option (List Event))
-    → Informs all inputs → Stands all inputs (position_after (length inputs.items) lines opening) control left → EndsAtLimit all lines left Done
-none_filled all inputs lines control left informs s =
+pub none_filled : (run : Run) (lines : List BookLine) (control : ControlState) (left : Option (List Event))
+    → IsAt run (position_after (total run) lines opening) control left → OfGiven (FillsNone lines) run.all left
+none_filled run lines control left s =
     record {
       gave = s.gave;
-      told = subst (λ (l : Option (List Event)). Gave (Some all) s.gave l) (sym s.left_is) s.same;
+      told = subst (λ (l : Option (List Event)). Gave (Some run.all) s.gave l) (sym s.left_is) s.same;
       fills = (λ fills. no_items at.ended refl fills, λ fills. no_octets at.ended refl fills);
     }
   where
-    total : ℕ
-    total = length inputs.items
-
     at : Position
-    at = position_after total lines opening
+    at = position_after (total run) lines opening
 
-    within_all : (items : List Item) → AreItems s.gave items → length items ≤ total
+    within_all : (items : List Item) → AreItems s.gave items → length items ≤ total run
     within_all items are =
-        let later = front_items s.gave s.rest items inputs.items are (items_by_cuts all (s.gave ++ s.rest) inputs.items s.same informs.items) in
+        let later = front_items s.gave s.rest items run.inputs.items are (items_by_cuts run.all (s.gave ++ s.rest) run.inputs.items s.same run.items) in
         omega (arith, ap length later.1, length-append items later.0)
 
     taken_within : (items : List Item) → AreItems s.gave items → at.taken ≤ length items
     taken_within items are =
-        let took : length s.effects ≡ length s.stands.took = omega (arith, runs_length control.peering.session.config [] _ s.stands.took s.effects control.peering.session.state s.stands.runs) in
+        let took : length s.effects ≡ length s.stands.took = omega (arith, runs_length control.peer.session.config [] _ s.stands.took s.effects control.peer.session.state s.stands.runs) in
         let same = front_items s.gave [] (s.stands.took ++ s.stands.pending) items s.stands.items (subst (λ (es : List Event). AreItems es items) (sym (append-nil s.gave)) are) in
         omega (arith, s.taken, took, ap length same.1, length-append (s.stands.took ++ s.stands.pending) same.0, length-append s.stands.took s.stands.pending)
 
     no_items : (b : Bool) → at.ended ≡ b → FillsItems lines s.gave → ⊥
     no_items true is fills = omega (arith, s.few_items is, fills.full, within_all fills.items fills.are)
-    no_items false is fills = asks_none total lines opening ITEM_LIMIT is s.within (subst (λ (n : ℕ). AsksPast lines n) (omega arith) fills.asks)
+    no_items false is fills = asks_none (total run) lines opening ITEM_LIMIT is s.within (subst (λ (n : ℕ). AsksPast lines n) (omega arith) fills.asks)
 
     no_octets : (b : Bool) → at.ended ≡ b → FillsOctets lines s.gave → ⊥
-    no_octets true is fills = omega (arith, s.few_octets is, fills.full, octets_within all s.gave s.rest s.same)
-    no_octets false is fills = asks_none total lines opening (length fills.items) is (taken_within fills.items fills.are) (subst (λ (n : ℕ). AsksPast lines n) (omega arith) fills.asks)
-
--- the run of a text that was read
-pub limit_told : (book : Option (List ℕ)) (old new : Option (List Event)) (text : List ℕ) (rows : List (ℕ × BookLine)) (status : Status) → IfSome book (λ all. text ≡ all) → IsBook text rows
-    → ((events : List Event) → old ≡ Some events → EndsAtLimit events (lines_in rows) new status)
-    → IfSome book (λ t. IfSome old (λ events. IsAtLimit t events new status))
-limit_told None old new text rows status whole is ends = tt
-limit_told (Some t) None new text rows status whole is ends = tt
-limit_told (Some t) (Some events) new text rows status whole is ends =
-    record { rows = rows; book = subst (λ (x : List ℕ). IsBook x rows) whole is; ends = ends events refl }
+    no_octets true is fills = omega (arith, s.few_octets is, fills.full, octets_within run.all s.gave s.rest s.same)
+    no_octets false is fills = asks_none (total run) lines opening (length fills.items) is (taken_within fills.items fills.are) (subst (λ (n : ℕ). AsksPast lines n) (omega arith) fills.asks)

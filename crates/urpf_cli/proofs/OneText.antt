@@ -42,7 +42,7 @@ one_resets inputs taken upto a b first second =
     let before : first.before ≡ second.before = one_list inputs taken first.before second.before first.has_before second.has_before in
     let all : first.before ++ first.more ≡ second.before ++ second.more = one_list inputs upto (first.before ++ first.more) (second.before ++ second.more) first.has_all second.has_all in
     let more : first.more ≡ second.more = append_cancel_left second.before first.more second.more (ap (λ (es : List Effect). es ++ first.more) (sym before) ∙ all) in
-    first.same ∙ ap (reset_lines taken) more ∙ sym second.same
+    first.same ∙ ap (reset_lines 0 taken) more ∙ sym second.same
 
 -- a line of the runbook gives one text at a position
 one_given : (inputs : Inputs) (at : Position) (line : BookLine) (a b : List ℕ) → Gives inputs at line a → Gives inputs at line b → a ≡ b

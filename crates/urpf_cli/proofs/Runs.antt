@@ -1,5 +1,5 @@
 -- What a run wrote, out of what its lines wrote.
-use Rattle.std.proofs.Common.{◌≡◌, ℕ, ◌+◌, ◌≤◌, List, [], ◌∷◌, ◌++◌, length, take, drop, Option, Some, None, Result, Ok, Err, OnErr, OnOk, get_or, slice_get, unwrap_or, refl, inl, inr, ap, sym, ◌∙◌, arith, append_assoc}
+use Rattle.std.proofs.Common.{◌≡◌, ℕ, ◌+◌, ◌≤◌, List, [], ◌∷◌, ◌++◌, length, take, drop, Option, Some, Result, Ok, Err, OnErr, OnOk, subst, get_or, slice_get, unwrap_or, refl, ap, sym, ◌∙◌, arith, append_assoc}
 use Rattle.std.specs.List.{concat}
 use Rattle.std.specs.Io.KnownBytes.{Appends}
 use Rattle.std.proofs.lemmas.List.{take-append-drop, append-nil, map-append, take-map, take_more, take_all}
@@ -10,9 +10,11 @@ use Rattle.urpf_base.proofs.Growth.{Appends-append}
 use Rattle.report_text.specs.Lines.{run_line, publish_line, done_line}
 use Rattle.runbook.specs.declared.lines.BookLine.{BookLine}
 use Rattle.feed_io.specs.Events.{Event}
-use Rattle.control_core.specs.declared.control.Control.{Control}
-use Rattle.urpf_cli.specs.RunText.{Inputs, Position, opening, next_position, position_after, Gives, GiveAll, head_text}
-use Rattle.urpf_cli.specs.Running.{Stands, lines_in, GaveLine, GaveLineFront, Gave, GaveFront, WroteRun, WroteFront}
+use Rattle.control_core.specs.States.{ControlState}
+use Rattle.control_core.proofs.PullLaws.{appends_none}
+use Rattle.urpf_cli.specs.RunText.{Inputs, Position, opening, next_position, position_after, Gives, GiveAll, IsRunText, head_text}
+use Rattle.urpf_cli.specs.Runs.{AreTexts, IsAt, Run, TookAll, TookFront, lines_in, total}
+use Rattle.urpf_cli.proofs.SomeText.{position_within, some_text, some_texts}
 
 -- the texts of one line more
 give_more : (inputs : Inputs) (at : Position) (lines : List BookLine) (texts : List (List ℕ)) (line : BookLine) (text : List ℕ) → GiveAll inputs at lines texts → Gives inputs (position_after (length inputs.items) lines at) line text → GiveAll inputs at (lines ++ line ∷ []) (texts ++ text ∷ [])
@@ -39,97 +41,121 @@ next_line : (rows : List (ℕ × BookLine)) (k : ℕ) (row : ℕ × BookLine) �
 next_line rows k row is = slice_get-map (λ (r : ℕ × BookLine). r.1) rows k ∙ ap (option_map (λ (r : ℕ × BookLine). r.1)) is
 
 -- the position after one line more of the book
-pub stands_more : (all : List Event) (inputs : Inputs) (rows : List (ℕ × BookLine)) (k : ℕ) (row : ℕ × BookLine) (control : Control) (left : Option (List Event)) → slice_get rows k ≡ Some row → Stands all inputs (next_position (length inputs.items) row.1 (position_after (length inputs.items) (take k (lines_in rows)) opening)) control left → Stands all inputs (position_after (length inputs.items) (take (k + 1) (lines_in rows)) opening) control left
-stands_more all inputs rows k row control left is stands =
-    rw (line_more rows k row is, position_more (length inputs.items) (take k (lines_in rows)) row.1 opening) stands
+pub at_more : (run : Run) (rows : List (ℕ × BookLine)) (k : ℕ) (row : ℕ × BookLine) (control : ControlState) (left : Option (List Event)) → slice_get rows k ≡ Some row
+    → IsAt run (next_position (total run) row.1 (position_after (total run) (take k (lines_in rows)) opening)) control left → IsAt run (position_after (total run) (take (k + 1) (lines_in rows)) opening) control left
+at_more run rows k row control left is stands =
+    rw (line_more rows k row is, position_more (total run) (take k (lines_in rows)) row.1 opening) stands
 
 -- what one line more of the book wrote
-pub gave_more : (inputs : Inputs) (rows : List (ℕ × BookLine)) (k : ℕ) (row : ℕ × BookLine) (old mid new : Option (List ℕ)) → slice_get rows k ≡ Some row → Gave inputs (take k (lines_in rows)) old mid → GaveLine inputs (position_after (length inputs.items) (take k (lines_in rows)) opening) row.1 mid new → Gave inputs (take (k + 1) (lines_in rows)) old new
-gave_more inputs rows k row old mid new is before line = rw (line_more rows k row is) (record {
-  texts = before.texts ++ line.text ∷ [];
-  given = give_more inputs opening (take k (lines_in rows)) before.texts row.1 line.text before.given line.gives;
-  appended = rw (concat_more before.texts line.text) (Appends-append old mid new (concat before.texts) line.text before.appended line.appended);
+pub texts_more : (inputs : Inputs) (rows : List (ℕ × BookLine)) (k : ℕ) (row : ℕ × BookLine) (old mid new : Option (List ℕ)) → slice_get rows k ≡ Some row → TookAll (AreTexts inputs (take k (lines_in rows))) old mid
+    → TookAll (Gives inputs (position_after (length inputs.items) (take k (lines_in rows)) opening) row.1) mid new → TookAll (AreTexts inputs (take (k + 1) (lines_in rows))) old new
+texts_more inputs rows k row old mid new is before line = rw (line_more rows k row is) (record {
+  text = before.text ++ line.text;
+  is = (before.is.0 ++ line.text ∷ [], give_more inputs opening (take k (lines_in rows)) before.is.0 row.1 line.text before.is.1 line.is, ap (λ t. t ++ line.text) before.is.2 ∙ sym (concat_more before.is.0 line.text));
+  appended = Appends-append old mid new before.text line.text before.appended line.appended;
 })
 
--- what the lines before one that stopped wrote, and a front of what it would
-pub gave_stop : (inputs : Inputs) (rows : List (ℕ × BookLine)) (k : ℕ) (row : ℕ × BookLine) (old mid new : Option (List ℕ)) → slice_get rows k ≡ Some row → Gave inputs (take k (lines_in rows)) old mid → GaveLineFront inputs (position_after (length inputs.items) (take k (lines_in rows)) opening) row.1 mid new → GaveFront inputs (lines_in rows) old new
-gave_stop inputs rows k row old mid new is before stop = record {
-  count = k;
-  texts = before.texts;
-  given = before.given;
-  last = stop.octets ++ stop.more;
-  is_last = record { line = row.1; is_next = next_line rows k row is; some = stop.some };
-  octets = concat before.texts ++ stop.octets;
-  more = stop.more;
-  parts = sym (append_assoc (concat before.texts) stop.octets stop.more);
-  appended = Appends-append old mid new (concat before.texts) stop.octets before.appended stop.appended;
-}
+-- the texts of lines, and of those behind them
+give_append : (inputs : Inputs) (at : Position) (lines more : List BookLine) (texts others : List (List ℕ)) → GiveAll inputs at lines texts → GiveAll inputs (position_after (length inputs.items) lines at) more others → GiveAll inputs at (lines ++ more) (texts ++ others)
+give_append inputs at [] more [] others given rest = rest
+give_append inputs at [] more (t ∷ texts) others given rest = absurd given
+give_append inputs at (l ∷ lines) more [] others given rest = absurd given
+give_append inputs at (l ∷ lines) more (t ∷ texts) others given rest =
+    (given.0, give_append inputs (next_position (length inputs.items) l at) lines more texts others given.1 rest)
 
-Appends-nil : (held : Option (List ℕ)) → Appends held held []
-Appends-nil None = tt
-Appends-nil (Some octets) = sym (append-nil octets)
+pub parted : (rows : List (ℕ × BookLine)) (k : ℕ) (row : ℕ × BookLine) → slice_get rows k ≡ Some row → take k (lines_in rows) ++ row.1 ∷ drop (k + 1) (lines_in rows) ≡ lines_in rows
+parted rows k row is =
+    let lines : List BookLine = lines_in rows in
+    sym (append_assoc (take k lines) (row.1 ∷ []) (drop (k + 1) lines)) ∙ ap (λ (ls : List BookLine). ls ++ drop (k + 1) lines) (sym (line_more rows k row is)) ∙ take-append-drop (k + 1) lines
 
--- before any line
-pub gave_none : (inputs : Inputs) (lines : List BookLine) (held : Option (List ℕ)) → Gave inputs (take 0 lines) held held
-gave_none inputs lines held = record { texts = []; given = tt; appended = Appends-nil held }
-
--- the head of a run, cut short
-pub head_front : (inputs : Inputs) (lines : List BookLine) (old new : Option (List ℕ)) → (octets : List ℕ) × (more : List ℕ) × (head_text ≡ octets ++ more) × Appends old new octets → WroteFront inputs lines old new
-head_front inputs lines old new (octets, more, parts, appended) = record {
-  octets = octets;
-  is_front = record { count = 0; texts = []; given = tt; last = []; is_last = inl refl; more = more; parts = append-nil head_text ∙ parts };
-  appended = appended;
-}
-
--- the head, and lines that were cut short
-pub lines_front : (inputs : Inputs) (lines : List BookLine) (old mid new : Option (List ℕ)) → Appends old mid head_text → GaveFront inputs lines mid new → WroteFront inputs lines old new
-lines_front inputs lines old mid new head cut = record {
-  octets = head_text ++ cut.octets;
-  is_front = record {
-    count = cut.count;
-    texts = cut.texts;
-    given = cut.given;
-    last = cut.last;
-    is_last = inr (inl cut.is_last);
-    more = cut.more;
-    parts = ap (λ t. head_text ++ t) cut.parts ∙ sym (append_assoc head_text cut.octets cut.more);
-  };
-  appended = Appends-append old mid new head_text cut.octets head cut.appended;
-}
-
--- the closing line of a run that has come to its end
-closing_is : (number at_number : ℕ) (text : List ℕ) → text ≡ done_line number 0 → number ≡ at_number → text ≡ done_line at_number 0
-closing_is number at_number text is same = is ∙ ap (λ n. done_line n 0) same
-
--- the head, all lines, and the closing line
-pub closing_wrote : {E : Type 0} (r : Result (Unit {0}) E) (inputs : Inputs) (lines : List BookLine) (number : ℕ) (text : List ℕ) (old head mid new : Option (List ℕ)) → Appends old head head_text → Gave inputs lines head mid → text ≡ done_line number 0 → number ≡ (position_after (length inputs.items) lines opening).number → OnOk r (Appends mid new text) → OnOk r (WroteRun inputs lines old new)
-closing_wrote (Err e) inputs lines number text old head mid new opened gave is same wrote = tt
-closing_wrote (Ok u) inputs lines number text old head mid new opened gave is same wrote =
-    let at_number = (position_after (length inputs.items) lines opening).number in
-    let closing = closing_is number at_number text is same in
+-- what the lines before one that stopped wrote, and a front of its text, are a front of the text of all lines
+pub texts_stop : (inputs : Inputs) (rows : List (ℕ × BookLine)) (k : ℕ) (row : ℕ × BookLine) (old mid new : Option (List ℕ)) → slice_get rows k ≡ Some row → TookAll (AreTexts inputs (take k (lines_in rows))) old mid
+    → TookFront (Gives inputs (position_after (length inputs.items) (take k (lines_in rows)) opening) row.1) mid new → TookFront (AreTexts inputs (lines_in rows)) old new
+texts_stop inputs rows k row old mid new is before stop =
+    let lines : List BookLine = lines_in rows in
+    let at : Position = position_after (length inputs.items) (take k lines) opening in
+    let next : Position = next_position (length inputs.items) row.1 at in
+    let within = position_within (length inputs.items) (take k lines ++ row.1 ∷ []) opening (omega arith) in
+    let rest = some_texts inputs next (drop (k + 1) lines) (subst (λ (p : Position). p.taken ≤ length inputs.items) (position_more (length inputs.items) (take k lines) row.1 opening) within) in
+    let line : List ℕ = stop.front ++ stop.more in
+    let given = give_append inputs opening (take k lines) (row.1 ∷ drop (k + 1) lines) before.is.0 (line ∷ rest.0) before.is.1 (stop.is, rest.1) in
     record {
-      text = head_text ++ (concat gave.texts ++ text);
-      is_run = record { texts = gave.texts; given = gave.given; parts = ap (λ t. head_text ++ (concat gave.texts ++ t)) closing };
-      appended = Appends-append old head new head_text (concat gave.texts ++ text) opened (Appends-append head mid new (concat gave.texts) text gave.appended wrote);
+      front = before.text ++ stop.front;
+      more = stop.more ++ concat rest.0;
+      is = (
+        before.is.0 ++ line ∷ rest.0,
+        subst (λ (ls : List BookLine). GiveAll inputs opening ls (before.is.0 ++ line ∷ rest.0)) (parted rows k row is) given,
+        append_assoc before.text stop.front (stop.more ++ concat rest.0)
+            ∙ ap (λ t. before.text ++ t) (sym (append_assoc stop.front stop.more (concat rest.0)))
+            ∙ ap (λ t. t ++ (line ++ concat rest.0)) before.is.2
+            ∙ sym (concat-append before.is.0 (line ∷ rest.0)),
+      );
+      appended = Appends-append old mid new before.text stop.front before.appended stop.appended;
     }
 
-pub closing_front : {E : Type 0} (r : Result (Unit {0}) E) (inputs : Inputs) (lines : List BookLine) (number : ℕ) (text : List ℕ) (old head mid new : Option (List ℕ)) → Appends old head head_text → Gave inputs lines head mid → text ≡ done_line number 0 → number ≡ (position_after (length inputs.items) lines opening).number → OnErr r ((n : ℕ) × (n ≤ length text) × Appends mid new (take n text)) → OnErr r (WroteFront inputs lines old new)
-closing_front (Ok u) inputs lines number text old head mid new opened gave is same cut = tt
-closing_front (Err e) inputs lines number text old head mid new opened gave is same cut =
-    let at_number = (position_after (length inputs.items) lines opening).number in
-    let front = concat gave.texts ++ take cut.0 text in
+-- before any line
+pub texts_none : (inputs : Inputs) (lines : List BookLine) (held : Option (List ℕ)) → TookAll (AreTexts inputs (take 0 lines)) held held
+texts_none inputs lines held = record { text = []; is = ([], tt, refl); appended = appends_none held }
+
+-- all lines were taken
+pub texts_all : (inputs : Inputs) (lines : List BookLine) (k : ℕ) (old new : Option (List ℕ)) → length lines ≤ k → TookAll (AreTexts inputs (take k lines)) old new → TookAll (AreTexts inputs lines) old new
+texts_all inputs lines k old new long took = subst (λ (ls : List BookLine). TookAll (AreTexts inputs ls) old new) (take_all k lines long) took
+
+-- the head of a run, cut short
+pub head_front : (inputs : Inputs) (lines : List BookLine) (old new : Option (List ℕ)) → TookFront (λ text. text ≡ head_text) old new → TookFront (IsRunText inputs lines) old new
+head_front inputs lines old new took =
+    let all = some_text inputs lines in
+    let rest : List ℕ = concat all.1.texts ++ done_line (position_after (length inputs.items) lines opening).number 0 in
     record {
-      octets = head_text ++ front;
-      is_front = record {
-        count = length lines;
-        texts = gave.texts;
-        given = rw (take_all (length lines) lines (omega arith)) gave.given;
-        last = text;
-        is_last = inr (inr (omega arith, closing_is number at_number text is same));
-        more = drop cut.0 text;
-        parts = ap (λ t. head_text ++ (concat gave.texts ++ t)) (sym (take-append-drop cut.0 text)) ∙ ap (λ t. head_text ++ t) (sym (append_assoc (concat gave.texts) (take cut.0 text) (drop cut.0 text))) ∙ sym (append_assoc head_text front (drop cut.0 text));
+      front = took.front;
+      more = took.more ++ rest;
+      is = record { texts = all.1.texts; given = all.1.given; parts = sym (append_assoc took.front took.more rest) ∙ ap (λ t. t ++ rest) took.is };
+      appended = took.appended;
+    }
+
+pub head_whole : (old new : Option (List ℕ)) → Appends old new head_text → TookFront (λ text. text ≡ head_text) old new
+head_whole old new appended = record { front = head_text; more = []; is = append-nil head_text; appended = appended }
+
+-- the head, and lines that were cut short
+pub lines_front : (inputs : Inputs) (lines : List BookLine) (old mid new : Option (List ℕ)) → Appends old mid head_text → TookFront (AreTexts inputs lines) mid new → TookFront (IsRunText inputs lines) old new
+lines_front inputs lines old mid new opened took =
+    let closing : List ℕ = done_line (position_after (length inputs.items) lines opening).number 0 in
+    record {
+      front = head_text ++ took.front;
+      more = took.more ++ closing;
+      is = record {
+        texts = took.is.0;
+        given = took.is.1;
+        parts = append_assoc head_text took.front (took.more ++ closing) ∙ ap (λ t. head_text ++ t) (sym (append_assoc took.front took.more closing) ∙ ap (λ t. t ++ closing) took.is.2);
       };
-      appended = Appends-append old head new head_text front opened (Appends-append head mid new (concat gave.texts) (take cut.0 text) gave.appended cut.2);
+      appended = Appends-append old mid new head_text took.front opened took.appended;
+    }
+
+-- the head and all lines, and a closing line that was offered
+pub closing_wrote : (inputs : Inputs) (lines : List BookLine) (number : ℕ) (text : List ℕ) (old head mid new : Option (List ℕ)) → Appends old head head_text → TookAll (AreTexts inputs lines) head mid → text ≡ done_line number 0
+    → number ≡ (position_after (length inputs.items) lines opening).number → Appends mid new text → TookAll (IsRunText inputs lines) old new
+closing_wrote inputs lines number text old head mid new opened took same is wrote = record {
+  text = head_text ++ (took.text ++ text);
+  is = record { texts = took.is.0; given = took.is.1; parts = ap (λ t. head_text ++ t) (ap (λ t. t ++ text) took.is.2 ∙ ap (λ t. concat took.is.0 ++ t) (same ∙ ap (λ n. done_line n 0) is)) };
+  appended = Appends-append old head new head_text (took.text ++ text) opened (Appends-append head mid new took.text text took.appended wrote);
+}
+
+pub closing_front : (inputs : Inputs) (lines : List BookLine) (number : ℕ) (text : List ℕ) (n : ℕ) (old head mid new : Option (List ℕ)) → Appends old head head_text → TookAll (AreTexts inputs lines) head mid → text ≡ done_line number 0
+    → number ≡ (position_after (length inputs.items) lines opening).number → Appends mid new (take n text) → TookFront (IsRunText inputs lines) old new
+closing_front inputs lines number text n old head mid new opened took same is wrote =
+    let closing : List ℕ = done_line (position_after (length inputs.items) lines opening).number 0 in
+    let whole : text ≡ closing = same ∙ ap (λ n. done_line n 0) is in
+    let front : List ℕ = took.text ++ take n text in
+    record {
+      front = head_text ++ front;
+      more = drop n text;
+      is = record {
+        texts = took.is.0;
+        given = took.is.1;
+        parts = append_assoc head_text front (drop n text)
+            ∙ ap (λ t. head_text ++ t) (append_assoc took.text (take n text) (drop n text) ∙ ap (λ t. took.text ++ t) (take-append-drop n text ∙ whole) ∙ ap (λ t. t ++ closing) took.is.2);
+      };
+      appended = Appends-append old head new head_text front opened (Appends-append head mid new took.text (take n text) took.appended wrote);
     }
 
 -- the head, which two writes took
@@ -138,15 +164,23 @@ head_written (Err e) first second old mid new parts one two = tt
 head_written (Ok u) first second old mid new parts one two = rw parts (Appends-append old mid new first second one two)
 
 -- the head, of which the first write failed
-pub head_cut_first : (first second : List ℕ) (old new : Option (List ℕ)) → head_text ≡ first ++ second → (n : ℕ) × (n ≤ length first) × Appends old new (take n first) → (octets : List ℕ) × (more : List ℕ) × (head_text ≡ octets ++ more) × Appends old new octets
-head_cut_first first second old new parts cut =
-    (take cut.0 first, drop cut.0 first ++ second, parts ∙ ap (λ t. t ++ second) (sym (take-append-drop cut.0 first)) ∙ append_assoc (take cut.0 first) (drop cut.0 first) second, cut.2)
+pub head_cut_first : (first second : List ℕ) (old new : Option (List ℕ)) → head_text ≡ first ++ second → (n : ℕ) × (n ≤ length first) × Appends old new (take n first) → TookFront (λ text. text ≡ head_text) old new
+head_cut_first first second old new parts cut = record {
+  front = take cut.0 first;
+  more = drop cut.0 first ++ second;
+  is = sym (parts ∙ ap (λ t. t ++ second) (sym (take-append-drop cut.0 first)) ∙ append_assoc (take cut.0 first) (drop cut.0 first) second);
+  appended = cut.2;
+}
 
 -- the head, of which the second write failed
-pub head_cut_second : {E : Type 0} (r : Result (Unit {0}) E) (first second : List ℕ) (old mid new : Option (List ℕ)) → head_text ≡ first ++ second → Appends old mid first → OnErr r ((n : ℕ) × (n ≤ length second) × Appends mid new (take n second)) → OnErr r ((octets : List ℕ) × (more : List ℕ) × (head_text ≡ octets ++ more) × Appends old new octets)
+pub head_cut_second : {E : Type 0} (r : Result (Unit {0}) E) (first second : List ℕ) (old mid new : Option (List ℕ)) → head_text ≡ first ++ second → Appends old mid first → OnErr r ((n : ℕ) × (n ≤ length second) × Appends mid new (take n second)) → OnErr r (TookFront (λ text. text ≡ head_text) old new)
 head_cut_second (Ok u) first second old mid new parts one cut = tt
-head_cut_second (Err e) first second old mid new parts one cut =
-    (first ++ take cut.0 second, drop cut.0 second, parts ∙ ap (λ t. first ++ t) (sym (take-append-drop cut.0 second)) ∙ sym (append_assoc first (take cut.0 second) (drop cut.0 second)), Appends-append old mid new first (take cut.0 second) one cut.2)
+head_cut_second (Err e) first second old mid new parts one cut = record {
+  front = first ++ take cut.0 second;
+  more = drop cut.0 second;
+  is = sym (parts ∙ ap (λ t. first ++ t) (sym (take-append-drop cut.0 second)) ∙ sym (append_assoc first (take cut.0 second) (drop cut.0 second)));
+  appended = Appends-append old mid new first (take cut.0 second) one cut.2;
+}
 
 pub head_parts : (first second : List ℕ) → first ≡ run_line 1 1 0 0 → second ≡ publish_line 0 0 0 (0 ∷ []) → head_text ≡ first ++ second
 head_parts first second is_first is_second = sym (ap (λ t. t ++ second) is_first ∙ ap (λ t. run_line 1 1 0 0 ++ t) is_second)

@@ -1,8 +1,9 @@
 pub mod CheckOne
-pub mod Limited
+pub mod Limits
 pub mod Offline
 pub mod RunText
-pub mod Running
+pub mod Runs
 pub mod Session
 pub mod StatusText
-pub mod Stops
+pub mod Statuses
+pub mod Words

@@ -1,106 +1,53 @@
--- What `offline` answers and writes. Our own choice, over the definitions of the protocol and of the run.
-use Rattle.std.specs.Prelude.{◌≡◌, ℕ, ◌<◌, ◌≤◌, List, [], ◌∷◌, length, Option, codes}
+-- What `offline` answers. Our own choice, over the definitions of the run.
+use Rattle.std.specs.Prelude.{◌≡◌, ℕ, ◌<◌, ◌≤◌, List, length, Option, Result}
 use Rattle.feed_io.specs.Events.{Event}
 use Rattle.runbook.specs.declared.lines.BookLine.{BookLine}
 use Rattle.runbook.specs.Book.{IsBook, IsFirstFault}
-use Rattle.control_core.specs.declared.limits.TheConstants.{ITEM_LIMIT, OCTET_LIMIT}
-use Rattle.control_core.specs.Items.{Item, AreItems, octet_count}
-use Rattle.urpf_cli.specs.RunText.{Inputs}
-use Rattle.urpf_cli.specs.Running.{Informs, WroteRun, WroteFront, lines_in}
-use Rattle.urpf_cli.specs.declared.status.Object.TheVariants as named
-use Rattle.urpf_cli.specs.declared.status.Status.{Status}
-use Rattle.urpf_cli.specs.declared.status.Status.TheVariants.{Done, Usage, BadBook, TooLong, ReadFault, WriteFault, ItemLimit, OctetLimit, BadSession, Unsupported, OutOfMemory}
+use Rattle.urpf_cli.specs.Limits.{StaysBelow}
+use Rattle.control_core.specs.declared.limits.RunFault.{RunFault}
+use Rattle.urpf_cli.specs.RunText.{IsRunText}
+use Rattle.urpf_cli.specs.Runs.{RanBook, Run, TookFront, lines_in}
+use Rattle.urpf_cli.specs.Words.{AreOfflineWords}
+use Rattle.urpf_cli.specs.declared.opening.Refusal.{Refusal}
+use Rattle.urpf_cli.specs.declared.opening.Refusal.TheVariants.{Misused, ReadFault, TooLong, BadBook, OutOfMemory}
+use Rattle.urpf_cli.specs.declared.opening.TheConstants.{BOOK_OCTETS}
 
--- the words are `offline`, the name of a runbook and the name of a trace
-pub record AreOfflineWords (words : List (List ℕ)) : Type 0 where
-  pub book : List ℕ
-  pub trace : List ℕ
-  pub parts : words ≡ codes "offline" ∷ book ∷ trace ∷ []
-
--- the text of the runbook is not too long, at most 1 MiB, and all its lines are taken
-pub record HasBook (text : List ℕ) : Type 0 where
-  pub short : length text ≤ 1048576
-  pub rows : List (ℕ × BookLine)
+-- the words and the text of the runbook open a run of these lines: it has at most 1 MiB, and all its lines are taken
+pub record Opens (words : List (List ℕ)) (text : List ℕ) (rows : List (ℕ × BookLine)) : Type 0 where
+  pub fit : AreOfflineWords words
+  pub short : length text ≤ BOOK_OCTETS
   pub book : IsBook text rows
 
--- the events have at least so many items
-pub record HasItems (events : List Event) (count : ℕ) : Type 0 where
-  pub items : List Item
-  pub are : AreItems events items
-  pub many : count ≤ length items
+-- the words and the text of the runbook decide that a run does not begin, for this
+abbrev pub IsRefused : List (List ℕ) → List ℕ → Refusal → Type 0
+IsRefused words text Misused = AreOfflineWords words → ⊥
+IsRefused words text ReadFault = ⊥
+IsRefused words text TooLong = AreOfflineWords words × (BOOK_OCTETS < length text)
+IsRefused words text (BadBook fault) = AreOfflineWords words × (length text ≤ BOOK_OCTETS) × IsFirstFault text fault.line fault.kind
+IsRefused words text OutOfMemory = ⊥
 
--- the events have fewer items and fewer octets than the limits
-pub record IsBelow (events : List Event) : Type 0 where
-  pub items : List Item
-  pub are : AreItems events items
-  pub few : length items < ITEM_LIMIT
-  pub octets : octet_count events < OCTET_LIMIT
+-- a refusal that words and text decide: no failed read, and no want of memory
+abbrev pub IsDecided : Refusal → Type 0
+IsDecided refusal = (refusal ≡ ReadFault → ⊥) × (refusal ≡ OutOfMemory → ⊥)
 
--- what the text and the events say
-pub record Inform (text : List ℕ) (events : List Event) (inputs : Inputs) (lines : List BookLine) : Type 0 where
+-- the run of this text over these events asks past no limit
+pub record IsBelowLimits (words : List (List ℕ)) (text : List ℕ) (events : List Event) : Type 0 where
   pub rows : List (ℕ × BookLine)
-  pub book : IsBook text rows
-  pub same : lines ≡ lines_in rows
-  pub informs : Informs events inputs
+  pub opens : Opens words text rows
+  pub below : StaysBelow (lines_in rows) events
 
--- the sink took the run of this text over these events
-pub record WritesRun (text : List ℕ) (events : List Event) (old new : Option (List ℕ)) : Type 0 where
-  pub inputs : Inputs
-  pub lines : List BookLine
-  pub inform : Inform text events inputs lines
-  pub wrote : WroteRun inputs lines old new
+-- what the run of these words and a runbook's text over these events comes to
+pub record RanText (words : List (List ℕ)) (text : List ℕ) (all : List Event) (result : Result (Unit {0}) RunFault) (left : Option (List Event)) (old new : Option (List ℕ)) : Type 0 where
+  pub rows : List (ℕ × BookLine)
+  pub opens : Opens words text rows
+  pub run : Run
+  pub same : run.all ≡ all
+  pub ran : RanBook run (lines_in rows) result left old new
 
--- the sink took a front of that run
-pub record WritesRunFront (text : List ℕ) (events : List Event) (old new : Option (List ℕ)) : Type 0 where
-  pub inputs : Inputs
-  pub lines : List BookLine
-  pub inform : Inform text events inputs lines
-  pub wrote : WroteFront inputs lines old new
-
--- which status words, a text and events merit, where all that is read and written succeeds and no limit is reached
-abbrev pub Merits : List (List ℕ) → List ℕ → List Event → Status → Type 0
-Merits words text events Done = AreOfflineWords words × HasBook text × IsBelow events
-Merits words text events Usage = AreOfflineWords words → ⊥
-Merits words text events (BadBook line kind) = AreOfflineWords words × (length text ≤ 1048576) × IsFirstFault text line kind
-Merits words text events (TooLong named.Book) = AreOfflineWords words × (1048576 < length text)
-Merits words text events (TooLong named.Stream) = ⊥
-Merits words text events (TooLong (named.Session session)) = ⊥
-Merits words text events (ReadFault object) = ⊥
-Merits words text events WriteFault = ⊥
-Merits words text events (ItemLimit session) = ⊥
-Merits words text events (OctetLimit session) = ⊥
-Merits words text events (BadSession code sub place) = ⊥
-Merits words text events (Unsupported place) = ⊥
-Merits words text events OutOfMemory = ⊥
-
--- a status that comes after the runbook was read whole
-abbrev pub IsPastBook : Status → Type 0
-IsPastBook Done = Unit {0}
-IsPastBook Usage = ⊥
-IsPastBook (BadBook line kind) = ⊥
-IsPastBook (TooLong object) = ⊥
-IsPastBook (ReadFault object) = object ≡ named.Session 0
-IsPastBook WriteFault = Unit {0}
-IsPastBook (ItemLimit session) = Unit {0}
-IsPastBook (OctetLimit session) = Unit {0}
-IsPastBook (BadSession code sub place) = ⊥
-IsPastBook (Unsupported place) = ⊥
-IsPastBook OutOfMemory = ⊥
-
--- a status that `offline` never answers: it reads no stream, and has one session
-abbrev pub IsForeignStatus : Status → Type 0
-IsForeignStatus Done = ⊥
-IsForeignStatus Usage = ⊥
-IsForeignStatus (BadBook line kind) = ⊥
-IsForeignStatus (TooLong named.Book) = ⊥
-IsForeignStatus (TooLong named.Stream) = Unit {0}
-IsForeignStatus (TooLong (named.Session session)) = Unit {0}
-IsForeignStatus (ReadFault named.Book) = ⊥
-IsForeignStatus (ReadFault named.Stream) = Unit {0}
-IsForeignStatus (ReadFault (named.Session session)) = session ≡ 0 → ⊥
-IsForeignStatus WriteFault = ⊥
-IsForeignStatus (ItemLimit session) = session ≡ 0 → ⊥
-IsForeignStatus (OctetLimit session) = session ≡ 0 → ⊥
-IsForeignStatus (BadSession code sub place) = Unit {0}
-IsForeignStatus (Unsupported place) = Unit {0}
-IsForeignStatus OutOfMemory = ⊥
+-- the sink took a front of the run of these words and this text over these events
+pub record TookRunFront (words : List (List ℕ)) (text : List ℕ) (all : List Event) (old new : Option (List ℕ)) : Type 0 where
+  pub rows : List (ℕ × BookLine)
+  pub opens : Opens words text rows
+  pub run : Run
+  pub same : run.all ≡ all
+  pub took : TookFront (IsRunText run.inputs (lines_in rows)) old new

@@ -16,7 +16,7 @@ use Rattle.control_core.specs.Runs.{Runs}
 use Rattle.report_text.specs.Lines.{run_line, publish_line, end_line, check_line, done_line}
 use Rattle.runbook.specs.declared.lines.BookLine.{BookLine}
 use Rattle.runbook.specs.declared.lines.BookLine.TheVariants.{Pull, Publish, Check}
-use Rattle.urpf_cli.specs.declared.whole.TheConstants.{PEER_AS, HOLD_SECONDS, MAX_PREFIXES}
+use Rattle.urpf_cli.specs.declared.run.TheConstants.{PEER_AS, HOLD_SECONDS, MAX_PREFIXES}
 
 -- the one session: its interface, its peer, the hold time and the most prefixes
 abbrev pub session_0 : SessionConfig
@@ -83,7 +83,7 @@ pub record AreResets (inputs : Inputs) (taken upto : ℕ) (lines : List ℕ) : T
   pub more : List Effect
   pub has_before : HasEffects inputs taken before
   pub has_all : HasEffects inputs upto (before ++ more)
-  pub same : lines ≡ reset_lines taken more
+  pub same : lines ≡ reset_lines 0 taken more
 
 -- the end line of the session where its end was met, and nothing where it was not
 abbrev pub end_text : Bool → Inputs → List ℕ

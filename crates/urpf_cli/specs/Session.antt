@@ -1,5 +1,5 @@
 -- What the stream of an established session says, and where it cannot be read (RFC 4271, sections 4 and 6).
-use Rattle.std.specs.Prelude.{◌≡◌, ◌⊎◌, ℕ, ◌+◌, true, List, [], ◌∷◌, ◌++◌, length, drop, Option, Some, None}
+use Rattle.std.specs.Prelude.{◌≡◌, ◌⊎◌, ℕ, ◌+◌, ◌≤◌, true, List, [], ◌∷◌, ◌++◌, length, drop, Option, Some, None}
 use Rattle.urpf_base.specs.RouteUpdates.{RouteUpdate}
 use Rattle.bgp_wire.specs.Header.{type_field}
 use Rattle.bgp_wire.specs.Frames.{Frames, End, Clean, Fault}
@@ -7,6 +7,10 @@ use Rattle.bgp_wire.specs.States.{kind_of}
 use Rattle.bgp_wire.specs.declared.kinds.MsgKind.{MsgKind}
 use Rattle.bgp_wire.specs.declared.kinds.MsgKind.TheVariants.{Open, Update, Notification, Keepalive}
 use Rattle.as_path.specs.declared.widths.Width.TheVariants.{Four}
+use Rattle.urpf_cli.specs.declared.check.TheConstants.{STREAM_OCTETS}
+use Rattle.urpf_cli.specs.declared.session.SessionFault.{SessionFault}
+use Rattle.urpf_cli.specs.declared.session.SessionFault.TheVariants.{Header, Unsupported, OutOfMemory}
+use Rattle.urpf_cli.specs.declared.session.SessionFault.TheVariants as fault
 use Rattle.bgp_update.specs.Faults.{IsFaultOf}
 use Rattle.bgp_update.specs.Update.{IsUpdate}
 
@@ -20,9 +24,9 @@ SaysBy kind body (Some update) = (kind ≡ Update) × IsUpdate Four true body up
 abbrev pub FailsBy : MsgKind → List ℕ → ℕ → Type 0
 FailsBy kind body sub = (kind ≡ Update) × IsFaultOf Four true body sub
 
--- a message of this kind is none that an established session is read for
-abbrev pub IsForeign : MsgKind → Type 0
-IsForeign kind = (kind ≡ Open) ⊎ (kind ≡ Notification)
+-- a message of this kind is none that an established session is read for here
+abbrev pub IsUnsupported : MsgKind → Type 0
+IsUnsupported kind = (kind ≡ Open) ⊎ (kind ≡ Notification)
 
 -- the octets of a whole message say this
 abbrev pub Says : List ℕ → Option RouteUpdate → Type 0
@@ -74,16 +78,22 @@ abbrev pub IsBadUpdateAt : List ℕ → ℕ → ℕ → Type 0
 IsBadUpdateAt stream subcode place = StopsAt stream place (λ kind body. FailsBy kind body subcode)
 
 -- it is an OPEN or a NOTIFICATION
-abbrev pub IsStrangeAt : List ℕ → ℕ → Type 0
-IsStrangeAt stream place = StopsAt stream place (λ kind body. IsForeign kind)
-
--- the message at this place has this error code and subcode: of its header, which is code 1, or of its body, which is code 3 (RFC 4271, section 4.5)
-abbrev pub IsBadAt : List ℕ → ℕ → ℕ → ℕ → Type 0
-IsBadAt stream code subcode place =
-    ((code ≡ 1) × IsFaultAt stream subcode place) ⊎ ((code ≡ 3) × IsBadUpdateAt stream subcode place)
+abbrev pub IsUnsupportedAt : List ℕ → ℕ → Type 0
+IsUnsupportedAt stream place = StopsAt stream place (λ kind body. IsUnsupported kind)
 
 -- the stream is messages that say this, and so many octets are left after them
 pub record Leaves (stream : List ℕ) (said : List (Option RouteUpdate)) (rest : ℕ) : Type 0 where
   pub octets : List ℕ
   pub read : IsRead stream said octets
   pub left : rest ≡ length octets
+
+-- the stream is not too long, at most 16 MiB
+abbrev pub IsShortEnough : List ℕ → Type 0
+IsShortEnough stream = length stream ≤ STREAM_OCTETS
+
+-- the first message that cannot be read is this one, for this reason
+abbrev pub HasFault : List ℕ → SessionFault → Type 0
+HasFault stream (Header sub place) = IsFaultAt stream sub place
+HasFault stream (fault.Update sub place) = IsBadUpdateAt stream sub place
+HasFault stream (Unsupported place) = IsUnsupportedAt stream place
+HasFault stream OutOfMemory = ⊥

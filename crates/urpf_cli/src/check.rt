@@ -1,19 +1,19 @@
 //! `check SESSION SOURCE`: words, a recorded session and a sink come in. The line that says whether
 //! the session's routes admit the source goes to the sink, and how the command ended goes out.
-ghost use Rattle.std.specs.Prelude.{None, ◌≡◌, ◌↔◌, ◌<◌, ◌≤◌, ◌⊎◌, [], ℕ, length, take};
-ghost use Rattle.std.specs.Prelude.{IfErr, IfSome, IsSomeAnd, OnOk, map, string_bytes};
-ghost use Rattle.std.specs.Io.KnownBytes.{Appends};
+ghost use Rattle.std.specs.Prelude.{None, ◌≡◌, ◌↔◌, ◌⊎◌, [], ℕ, OnOk, IfErr, IfSome, IsSomeAnd, map, string_bytes};
+ghost use Rattle.urpf_base.specs.declared.address.Addr.{Addr};
 ghost use Rattle.urpf_base.specs.Address.{Block};
-ghost use Rattle.urpf_base.specs.Faults.{Rose};
+ghost use Rattle.urpf_base.specs.Faults.{CountsFault, Rose};
 ghost use Rattle.adj_rib.specs.Routes.{routes_at};
 ghost use Rattle.control_core.specs.Table.{HoldsRoutes};
-ghost use Rattle.urpf_cli.specs.declared.status.Status.{Status};
-ghost use Rattle.urpf_cli.specs.CheckOne.{Deserves, FitNoForm, IsCheckLine, IsQuiet, IsRefused, NamesRun, Within, status_of_fault, WritesFront, WritesLine};
-ghost use Rattle.urpf_cli.specs.Session.{IsBadAt, IsStrangeAt, updates_of};
+ghost use Rattle.urpf_cli.specs.CheckOne.{CheckEnd, ComesTo, HasFaultOrMemory, IsCheckLine, WritesFront, WritesLine};
+ghost use Rattle.urpf_cli.specs.Session.{updates_of};
+ghost use Rattle.urpf_cli.specs.Statuses.{IsCheckStatus, status_of_check, status_of_stream};
+ghost use Rattle.urpf_cli.specs.Words.{AreCheckWords};
 
 use crate::session::{MESSAGE_HEADER_ERROR, SessionFault, UPDATE_MESSAGE_ERROR, read_session};
 use crate::status::{Object, Status};
-use crate::words::check_source;
+use crate::words::{Command, read_command};
 use adj_rib::AdjRib;
 use bgp_update::UpdateView;
 use control_core::apply_item;
@@ -36,34 +36,31 @@ pub fn check_one<S: Source, K: Sink>(
     out: &mut K,
 ) -> Status
     // When each answer comes.
-    ensures usage { result ≡ Status.Usage ↔ FitNoForm (map string_bytes words.now) }
-    ensures read_fault { result ≡ Status.ReadFault Object.Stream
-        → Rose (S.faults session.old) (S.faults session.new) }
-    ensures write_fault { result ≡ Status.WriteFault
-        → Rose (K.faults out.old) (K.faults out.new) }
-    ensures too_long { result ≡ Status.TooLong Object.Stream
-        → IfSome (S.left session.old) (λ stream. STREAM_OCTETS < length stream) }
-    ensures bad_session { (code sub place : ℕ) → result ≡ Status.BadSession code sub place
-        → IfSome (S.left session.old) (λ stream. Within stream (IsBadAt stream code sub place)) }
-    ensures unsupported { (place : ℕ) → result ≡ Status.Unsupported place
-        → IfSome (S.left session.old) (λ stream. Within stream (IsStrangeAt stream place)) }
-    ensures no_book { NamesRun result → ⊥ }
+    ensures usage { result ≡ Status.Usage
+        ↔ ((source : Addr) → AreCheckWords (map string_bytes words.now) source → ⊥) }
+    ensures stream { CountsFault (result ≡ Status.ReadFault Object.Stream)
+        (S.faults session.old) (S.faults session.new) }
+    ensures sink { CountsFault (result ≡ Status.WriteFault) (K.faults out.old) (K.faults out.new) }
+    ensures known { IsCheckStatus result }
+    ensures found { (end : CheckEnd) → result ≡ status_of_check end → (result ≡ Status.OutOfMemory → ⊥)
+        → IfSome (S.left session.old) (λ stream. ComesTo (map string_bytes words.now) stream end) }
 
-    // Where nothing fails, the answer is the one that the words and the stream deserve.
-    ensures exact { (status : Status)
-        → IsSomeAnd (S.left session.old) (λ stream. Deserves (map string_bytes words.now) stream status)
+    // Where nothing fails, the answer is the one that the words and the stream decide.
+    ensures only { (end : CheckEnd)
+        → IsSomeAnd (S.left session.old) (λ stream. ComesTo (map string_bytes words.now) stream end)
         → ¬ Rose (S.faults session.old) (S.faults session.new)
         → ¬ Rose (K.faults out.old) (K.faults out.new)
-        → (result ≡ status) ⊎ (result ≡ Status.OutOfMemory) }
+        → (result ≡ status_of_check end) ⊎ (result ≡ Status.OutOfMemory) }
 
     // What the sink took.
     ensures done { result ≡ Status.Done → IfSome (S.left session.old)
         (λ stream. WritesLine (map string_bytes words.now) stream (K.held out.old) (K.held out.new)) }
     ensures cut_short { result ≡ Status.WriteFault → IfSome (S.left session.old)
         (λ stream. WritesFront (map string_bytes words.now) stream (K.held out.old) (K.held out.new)) }
-    ensures quiet { IsQuiet result → out.new ≡ out.old }
+    ensures quiet { (result ≡ Status.Done → ⊥) → (result ≡ Status.WriteFault → ⊥)
+        → out.new ≡ out.old }
 {
-    let Some(source) = check_source(words) else {
+    let Some(Command::Check { source }) = read_command(words) else {
         return Status::Usage;
     };
     let stream = match read_text(alloc, session, STREAM_OCTETS) {
@@ -74,24 +71,28 @@ pub fn check_one<S: Source, K: Sink>(
     };
     let mut line = Line::new();
     match judge(alloc, &stream, &source, &mut line) {
-        Ok(()) => write_line(out, &line),
-        Err(status) => status,
+        Ok(()) => {}
+        Err(fault) => return status_of(fault),
+    }
+    match write_all(out, line.bytes()) {
+        Ok(()) => Status::Done,
+        Err(Failed) => Status::WriteFault,
     }
 }
 
 /// Writes the line for the source into the empty line, or says why the stream cannot be read.
-fn judge(alloc: Global, stream: &[u8], source: &Addr, line: &mut Line) -> Result<(), Status>
+fn judge(alloc: Global, stream: &[u8], source: &Addr, line: &mut Line) -> Result<(), SessionFault>
     requires { line.old ≡ [] }
     ensures ok { OnOk result (IsCheckLine stream.now source.now line.new) }
-    ensures err { IfErr result (IsRefused stream.now) }
+    ensures err { IfErr result (HasFaultOrMemory stream.now) }
 {
     let session = match read_session(alloc, stream) {
         Ok(session) => session,
-        Err(fault) => return Err(status_of(fault)),
+        Err(fault) => return Err(fault),
     };
     let mut rib = AdjRib::new(alloc);
     if let Err(OutOfMemory) = take_all(&mut rib, &session.items) {
-        return Err(Status::OutOfMemory);
+        return Err(SessionFault::OutOfMemory);
     }
     let passes = rib.any_covers(source);
     let messages = session.items.len() as u64;
@@ -112,8 +113,8 @@ fn take_all(rib: &mut AdjRib, items: &[Option<UpdateView<'_>>]) -> Result<(), Ou
 }
 
 /// The status of a stream that cannot be read.
-pub fn status_of(fault: SessionFault) -> Status
-    ensures { result ≡ status_of_fault fault }
+fn status_of(fault: SessionFault) -> Status
+    ensures { result ≡ status_of_stream fault }
 {
     match fault {
         SessionFault::Header { sub, place } => Status::BadSession {
@@ -126,21 +127,7 @@ pub fn status_of(fault: SessionFault) -> Status
             sub,
             place,
         },
-        SessionFault::Strange { place } => Status::Unsupported { place },
+        SessionFault::Unsupported { place } => Status::Unsupported { place },
         SessionFault::OutOfMemory => Status::OutOfMemory,
-    }
-}
-
-/// Offers the line to the sink.
-fn write_line<K: Sink>(out: &mut K, line: &Line) -> Status
-    ensures either { (result ≡ Status.Done) ⊎ (result ≡ Status.WriteFault) }
-    ensures done { result ≡ Status.Done → Appends (K.held out.old) (K.held out.new) line.now }
-    ensures cut_short { result ≡ Status.WriteFault → (n : ℕ) × (n ≤ length line.now)
-        × Appends (K.held out.old) (K.held out.new) (take n line.now) }
-    ensures cause { result ≡ Status.WriteFault → Rose (K.faults out.old) (K.faults out.new) }
-{
-    match write_all(out, line.bytes()) {
-        Ok(()) => Status::Done,
-        Err(Failed) => Status::WriteFault,
     }
 }

@@ -4,18 +4,21 @@
 mod check;
 mod laws;
 mod offline;
+mod opening;
+mod run;
+mod run_line;
 mod session;
 mod status;
 mod status_text;
-mod steps;
-mod whole;
 mod words;
 
 pub use check::{STREAM_OCTETS, check_one};
 pub use laws::{assigned_numbers, one_run_text};
-pub use offline::{BOOK_OCTETS, offline_feed};
+pub use offline::offline_feed;
+pub use opening::BOOK_OCTETS;
 pub use status::{Object, Status};
 pub use status_text::{exit_code, put_status};
+pub use words::{Command, read_command};
 
 #[cfg(test)]
 mod tests;

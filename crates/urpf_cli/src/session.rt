@@ -4,7 +4,7 @@
 ghost use Rattle.std.specs.Prelude.{◌≡◌, ◌≤◌, ℕ, Option, Err, IfOk, length};
 ghost use Rattle.bgp_wire.specs.declared.kinds.MsgKind.{MsgKind};
 ghost use Rattle.urpf_base.specs.RouteUpdates.{RouteUpdate};
-ghost use Rattle.urpf_cli.specs.Session.{FailsBy, IsBadUpdateAt, IsFaultAt, IsForeign, IsStrangeAt, Leaves, SaysBy};
+ghost use Rattle.urpf_cli.specs.Session.{FailsBy, IsBadUpdateAt, IsFaultAt, IsUnsupported, IsUnsupportedAt, Leaves, SaysBy};
 
 use as_path::Width;
 use bgp_update::{UpdateFault, UpdateView, read_update};
@@ -37,7 +37,7 @@ pub enum SessionFault {
     /// The message at this place is an UPDATE with a fault of this subcode.
     Update { sub: u8, place: u64 },
     /// The message at this place is an OPEN or a NOTIFICATION.
-    Strange { place: u64 },
+    Unsupported { place: u64 },
     /// Memory could not be had for an item.
     OutOfMemory,
 }
@@ -49,8 +49,8 @@ pub fn read_session<'a>(alloc: Global, stream: &'a [u8]) -> Result<Session<'a>, 
         → IsFaultAt stream.now sub place }
     ensures update { (sub place : ℕ) → result ≡ Err (SessionFault.Update sub place)
         → IsBadUpdateAt stream.now sub place }
-    ensures strange { (place : ℕ) → result ≡ Err (SessionFault.Strange place)
-        → IsStrangeAt stream.now place }
+    ensures unsupported { (place : ℕ) → result ≡ Err (SessionFault.Unsupported place)
+        → IsUnsupportedAt stream.now place }
 {
     let mut items = Vec::new(alloc);
     let mut framer = Framer::new();
@@ -91,8 +91,8 @@ fn read_item(kind: MsgKind, body: &[u8], place: u64) -> Result<Option<UpdateView
     ensures header { (sub at : ℕ) → result ≡ Err (SessionFault.Header sub at) → ⊥ }
     ensures update { (sub at : ℕ) → result ≡ Err (SessionFault.Update sub at)
         → (at ≡ place) × FailsBy kind body.now sub }
-    ensures strange { (at : ℕ) → result ≡ Err (SessionFault.Strange at)
-        → (at ≡ place) × IsForeign kind }
+    ensures unsupported { (at : ℕ) → result ≡ Err (SessionFault.Unsupported at)
+        → (at ≡ place) × IsUnsupported kind }
 {
     match kind {
         MsgKind::Keepalive => Ok(None),
@@ -100,6 +100,6 @@ fn read_item(kind: MsgKind, body: &[u8], place: u64) -> Result<Option<UpdateView
             Ok(update) => Ok(Some(update)),
             Err(UpdateFault { sub }) => Err(SessionFault::Update { sub, place }),
         },
-        MsgKind::Open | MsgKind::Notification => Err(SessionFault::Strange { place }),
+        MsgKind::Open | MsgKind::Notification => Err(SessionFault::Unsupported { place }),
     }
 }

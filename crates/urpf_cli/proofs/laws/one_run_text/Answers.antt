@@ -1,5 +1,9 @@
 use Rattle.urpf_cli.proofs.OneText.{one_text}
+use Rattle.urpf_cli.proofs.SomeText.{some_text}
 use Rattle.urpf_cli.proofs.laws.one_run_text.Goals as goal
 
-pub returns : goal.returns
-returns c = λ inputs lines a b one two. one_text inputs lines a b one two
+pub returns-clause-some : goal.returns-clause-some
+returns-clause-some c = some_text
+
+pub returns-clause-only : goal.returns-clause-only
+returns-clause-only c = one_text

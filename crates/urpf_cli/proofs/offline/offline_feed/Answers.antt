@@ -1,55 +1,64 @@
-use Rattle.std.proofs.Common.{map, arith, inl, inr, refl, ◌∙◌, ap, subst, Err}
+use Rattle.std.proofs.Common.{◌≡◌, Err, map, inl, inr, ap, sym, subst, ◌∙◌, Result, IfSome}
 use Rattle.std.specs.Prelude.{string_bytes}
-use Rattle.urpf_cli.specs.Running.{StopsRun}
-use Rattle.urpf_cli.specs.declared.status.Status.{Status}
-use Rattle.urpf_cli.specs.declared.status.Status.TheVariants.{Done}
-use Rattle.urpf_cli.proofs.Limiting.{limit_told}
-use Rattle.urpf_cli.proofs.Merits.{bad_alone, run_alone, stops_below}
-use Rattle.urpf_cli.proofs.Openings.{front_written, items_reached, octets_reached, run_written, some_inputs}
+use Rattle.control_core.specs.declared.limits.RunFault.{RunFault}
+use Rattle.control_core.specs.declared.limits.RunFault.TheVariants.{OutOfMemory}
+use Rattle.urpf_cli.specs.Offline.{RanText}
+use Rattle.urpf_cli.specs.Runs.{RanBook, lines_in}
+use Rattle.urpf_cli.specs.Statuses.{status_of_refusal, status_of_run}
+use Rattle.urpf_cli.proofs.Openings.{front_told, opens_of, ran_told, read_of_zero, run_done, same_error, same_value, value_or_error}
+use Rattle.urpf_cli.proofs.Refusals.{one_run_end}
 use Rattle.urpf_cli.proofs.offline.offline_feed.Goals as goal
 
-pub returns-in-Err-Bad-clause-exact : goal.returns-in-Err-Bad-clause-exact
-returns-in-Err-Bad-clause-exact g c = λ status merit book feed out.
-    rw c.in-Err-Bad.field-0-is (inl (bad_alone (map string_bytes c.args.words.now) (g.S.Source.left c.args.book.now) (g.F.Feed.left c.args.feed.now) c.in-Ok.text.items c.in-Err-Bad.fault.line c.in-Err-Bad.fault.kind c.read_book.result status c.in-Ok.ensures.whole (c.if-not-are_offline.ensures.0 refl) (omega (arith, c.in-Ok.text.ok.0, c.in-Ok.ensures.within)) (c.in-Err-Bad.is ∙ ap (λ e. Err e) c.in-Err-Bad.field-0-is) (rw c.deref.ensures.value at c.read_book.ensures.only) (rw c.deref.ensures.value at c.read_book.ensures.only_bad) merit))
+pub returns-in-Err-clause-refused_only : goal.returns-in-Err-clause-refused_only
+returns-in-Err-clause-refused_only g c = λ r told read.
+    elim (c.in-Err.ensures.refused_only r told) [
+      | inl same ↦ inl (c.status_of_opening.ensures ∙ ap status_of_refusal (same_error c.in-Err.refusal r same))
+      | inr other ↦ elim other [
+        | inl failed ↦ absurd (read (c.in-Err.ensures.book.rose failed))
+        | inr memory ↦ inr (c.status_of_opening.ensures ∙ ap status_of_refusal (same_error c.in-Err.refusal _ memory))
+      ]
+    ]
 
-pub returns-in-Ok-run_book-clause-exact : goal.returns-in-Ok-run_book-clause-exact
-returns-in-Ok-run_book-clause-exact g c = λ status merit book feed out.
-    run_alone (map string_bytes c.args.words.now) (g.S.Source.left c.args.book.now) (g.F.Feed.left c.args.feed.now) c.in-Ok.text.items c.in-Ok-read_book.book c.read_book.result Done status c.in-Ok.ensures.whole (c.if-not-are_offline.ensures.0 refl) (omega (arith, c.in-Ok.text.ok.0, c.in-Ok.ensures.within)) c.in-Ok-read_book.is (rw c.deref.ensures.value at c.read_book.ensures.only_bad) (λ events left below. inl refl) merit
+pub returns-in-Err-clause-done_only : goal.returns-in-Err-clause-done_only
+returns-in-Err-clause-done_only g c = λ told book feed out.
+    let opens = opens_of (map string_bytes c.args.words.now) (g.S.Source.left c.args.book.now) (g.F.Feed.left c.args.feed.now) told in
+    elim (c.in-Err.ensures.only opens.0 opens.1) [
+      | inl same ↦ absurd (value_or_error opens.0 c.in-Err.refusal (sym same))
+      | inr other ↦ elim other [
+        | inl failed ↦ absurd (book (c.in-Err.ensures.book.rose failed))
+        | inr memory ↦ inr (c.status_of_opening.ensures ∙ ap status_of_refusal (same_error c.in-Err.refusal _ memory))
+      ]
+    ]
 
-pub returns-clause-exact : goal.returns-clause-exact
-returns-clause-exact g c = λ status merit book feed out.
-    run_alone (map string_bytes c.args.words.now) (g.S.Source.left c.args.book.now) (g.F.Feed.left c.args.feed.now) c.in-Ok.text.items c.in-Ok-read_book.book c.read_book.result c.in-Err.status status c.in-Ok.ensures.whole (c.if-not-are_offline.ensures.0 refl) (omega (arith, c.in-Ok.text.ok.0, c.in-Ok.ensures.within)) c.in-Ok-read_book.is (rw c.deref.ensures.value at c.read_book.ensures.only_bad)
-    (λ events left below.
-    let all = some_inputs events in
-    inr (stops_below events all.0 c.in-Err.status all.1 (c.in-Err.ensures.stops events all.0 left all.1)
-    (λ is. feed (c.in-Err.ensures.read (ap (λ (s : Status). Err s) is))) (λ is. out (c.in-Err.ensures.write (ap (λ (s : Status). Err s) is))) below)) merit
+pub returns-clause-refused_only : goal.returns-clause-refused_only
+returns-clause-refused_only g c = λ r told read.
+    elim (c.in-Ok.ensures.refused_only r told) [
+      | inl same ↦ absurd (value_or_error c.in-Ok.book r same)
+      | inr other ↦ elim other [
+        | inl failed ↦ absurd (value_or_error c.in-Ok.book _ failed)
+        | inr memory ↦ absurd (value_or_error c.in-Ok.book _ memory)
+      ]
+    ]
 
-pub returns-in-Ok-run_book-clause-done : goal.returns-in-Ok-run_book-clause-done
-returns-in-Ok-run_book-clause-done g c = λ done.
-    run_written (g.S.Source.left c.args.book.now) (g.F.Feed.left c.args.feed.now) c.in-Ok.text.items c.in-Ok-read_book.book (g.K.Sink.held c.args.out.now) (g.K.Sink.held c.run_book.new.out) c.in-Ok.ensures.whole (rw c.deref.ensures.value at c.in-Ok-read_book.ensures.found) c.in-Ok-run_book.ensures.ok
-
-pub returns-clause-item_limit : goal.returns-clause-item_limit
-returns-clause-item_limit g c = λ is.
-    items_reached (g.F.Feed.left c.args.feed.now) (λ events inputs left informs. subst (λ (s : Status). StopsRun events inputs s) is (c.in-Err.ensures.stops events inputs left informs))
-
-pub returns-clause-octet_limit : goal.returns-clause-octet_limit
-returns-clause-octet_limit g c = λ is.
-    octets_reached (g.F.Feed.left c.args.feed.now) (λ events inputs left informs. subst (λ (s : Status). StopsRun events inputs s) is (c.in-Err.ensures.stops events inputs left informs))
-
-pub returns-clause-cut_short : goal.returns-clause-cut_short
-returns-clause-cut_short g c = λ stops had.
-    front_written (g.S.Source.left c.args.book.now) (g.F.Feed.left c.args.feed.now) c.in-Ok.text.items c.in-Ok-read_book.book (g.K.Sink.held c.args.out.now) (g.K.Sink.held c.run_book.new.out) c.in-Ok.ensures.whole (rw c.deref.ensures.value at c.in-Ok-read_book.ensures.found) c.in-Err.ensures.front
+pub returns-clause-ran : goal.returns-clause-ran
+returns-clause-ran g c = λ end had is.
+    let same : c.run_book.result ≡ end = one_run_end c.run_book.result end (sym c.status_of_end.ensures ∙ is) in
+    subst (λ (e : Result (Unit {0}) RunFault). IfSome (g.S.Source.left c.args.book.now) (λ text. IfSome (g.F.Feed.left c.args.feed.now) (λ events. RanText (map string_bytes c.args.words.now) text events e (g.F.Feed.left c.run_book.new.feed) (g.K.Sink.held c.args.out.now) (g.K.Sink.held c.run_book.new.out)))) same
+    (ran_told (map string_bytes c.args.words.now) (g.S.Source.left c.args.book.now) (g.F.Feed.left c.args.feed.now) c.in-Ok.book c.run_book.result (g.F.Feed.left c.run_book.new.feed) (g.K.Sink.held c.args.out.now) (g.K.Sink.held c.run_book.new.out) c.in-Ok.ensures.found.1 c.run_book.ensures.ran)
 
 pub returns-clause-memory : goal.returns-clause-memory
 returns-clause-memory g c = λ is.
-    inr (front_written (g.S.Source.left c.args.book.now) (g.F.Feed.left c.args.feed.now) c.in-Ok.text.items c.in-Ok-read_book.book (g.K.Sink.held c.args.out.now) (g.K.Sink.held c.run_book.new.out) c.in-Ok.ensures.whole (rw c.deref.ensures.value at c.in-Ok-read_book.ensures.found) c.in-Err.ensures.front)
+    let starved : c.run_book.result ≡ Err OutOfMemory = one_run_end c.run_book.result (Err OutOfMemory) (sym c.status_of_end.ensures ∙ is) in
+    inr (front_told (map string_bytes c.args.words.now) (g.S.Source.left c.args.book.now) (g.F.Feed.left c.args.feed.now) c.in-Ok.book (g.K.Sink.held c.args.out.now) (g.K.Sink.held c.run_book.new.out) c.in-Ok.ensures.found.1
+    (λ run left. (subst (λ (r : Result (Unit {0}) RunFault). RanBook run (lines_in c.in-Ok.book) r (g.F.Feed.left c.run_book.new.feed) (g.K.Sink.held c.args.out.now) (g.K.Sink.held c.run_book.new.out)) starved (c.run_book.ensures.ran run left)).0))
 
-pub returns-in-Ok-run_book-clause-limits : goal.returns-in-Ok-run_book-clause-limits
-returns-in-Ok-run_book-clause-limits g c = λ tells.
-    limit_told (g.S.Source.left c.args.book.now) (g.F.Feed.left c.args.feed.now) (g.F.Feed.left c.run_book.new.feed) c.in-Ok.text.items c.in-Ok-read_book.book Done c.in-Ok.ensures.whole (rw c.deref.ensures.value at c.in-Ok-read_book.ensures.found)
-    (λ events left. let all = some_inputs events in c.in-Ok-run_book.ensures.unlimited events all.0 left all.1)
-
-pub returns-clause-limits : goal.returns-clause-limits
-returns-clause-limits g c = λ tells.
-    limit_told (g.S.Source.left c.args.book.now) (g.F.Feed.left c.args.feed.now) (g.F.Feed.left c.run_book.new.feed) c.in-Ok.text.items c.in-Ok-read_book.book c.in-Err.status c.in-Ok.ensures.whole (rw c.deref.ensures.value at c.in-Ok-read_book.ensures.found)
-    (λ events left. let all = some_inputs events in c.in-Err.ensures.limited events all.0 left all.1)
+pub returns-clause-done_only : goal.returns-clause-done_only
+returns-clause-done_only g c = λ told book feed out.
+    let done = run_done (map string_bytes c.args.words.now) (g.S.Source.left c.args.book.now) (g.F.Feed.left c.args.feed.now) c.in-Ok.book c.run_book.result (g.F.Feed.left c.run_book.new.feed) (g.K.Sink.held c.args.out.now) (g.K.Sink.held c.run_book.new.out) told c.run_book.ensures.ran
+    (λ others opens. elim (c.in-Ok.ensures.only others opens) [
+      | inl same ↦ same_value c.in-Ok.book others same
+      | inr other ↦ elim other [ inl failed ↦ absurd (value_or_error c.in-Ok.book _ failed) | inr memory ↦ absurd (value_or_error c.in-Ok.book _ memory) ]
+    ])
+    (λ n failed. feed (c.run_book.ensures.feed.rose (read_of_zero c.run_book.result n c.run_book.ensures.names failed)))
+    (λ failed. out (c.run_book.ensures.sink.rose failed)) in
+    elim done [ inl is ↦ inl (c.status_of_end.ensures ∙ ap status_of_run is) | inr is ↦ inr (c.status_of_end.ensures ∙ ap status_of_run is) ]

@@ -1,6 +1,6 @@
 use Rattle.std.proofs.Common.{◌≡◌, Err, ◌+◌, ◌∙◌, ap, length, take, arith, length-take, sym}
 use Rattle.urpf_cli.proofs.Streams.{held_now, read_to_end, stopped_by_fault, stopped_by, progress_more, taken_now, pushed_items}
-use Rattle.urpf_cli.specs.Session.{FailsBy, IsForeign}
+use Rattle.urpf_cli.specs.Session.{FailsBy, IsUnsupported}
 use Rattle.urpf_cli.specs.declared.session.SessionFault.TheVariants as SessionFault
 use Rattle.urpf_cli.proofs.session.read_session.Goals as goal
 
@@ -31,16 +31,16 @@ returns-in-Err-clause-update c = λ sub place is.
     let told = c.in-Err.ensures.update sub place (ap (λ f. Err f) fault) in
     stopped_by c.args.stream.now left count place c.loop-held.items.items c.in-Whole.kind c.split_at-in-Whole.result.1.now (λ kind body. FailsBy kind body sub) c.loop-held.invariant.progress (omega (arith, told.0, c.len-in-Whole.ensures, c.loop-held.items.ok.0)) taken told.1
 
-pub returns-in-Err-clause-strange : goal.returns-in-Err-clause-strange
-returns-in-Err-clause-strange c = λ place is.
+pub returns-in-Err-clause-unsupported : goal.returns-in-Err-clause-unsupported
+returns-in-Err-clause-unsupported c = λ place is.
     let left = c.loop-held.left.now in
     let count = c.push-count.result in
     let now : c.push-count.new.self ≡ take count left = held_now c.loop-held.framer (take count left) c.push-count.new.self c.loop-held.invariant.empty c.push-count.ensures.held in
     let state = c.in-Whole.ensures.state in
     let taken = taken_now left c.push-count.new.self c.split_at.result.0.now c.split_at-in-Whole.result.1.now count c.in-Whole.kind now c.split_at.ensures.front state.0 state.1 c.split_at-in-Whole.ensures.back in
-    let fault : c.in-Err.fault ≡ SessionFault.Strange place = cc in
-    let told = c.in-Err.ensures.strange place (ap (λ f. Err f) fault) in
-    stopped_by c.args.stream.now left count place c.loop-held.items.items c.in-Whole.kind c.split_at-in-Whole.result.1.now (λ kind body. IsForeign kind) c.loop-held.invariant.progress (omega (arith, told.0, c.len-in-Whole.ensures, c.loop-held.items.ok.0)) taken told.1
+    let fault : c.in-Err.fault ≡ SessionFault.Unsupported place = cc in
+    let told = c.in-Err.ensures.unsupported place (ap (λ f. Err f) fault) in
+    stopped_by c.args.stream.now left count place c.loop-held.items.items c.in-Whole.kind c.split_at-in-Whole.result.1.now (λ kind body. IsUnsupported kind) c.loop-held.invariant.progress (omega (arith, told.0, c.len-in-Whole.ensures, c.loop-held.items.ok.0)) taken told.1
 
 pub loop-held-preserved : goal.loop-held-preserved
 loop-held-preserved c =

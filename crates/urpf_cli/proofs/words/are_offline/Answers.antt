@@ -1,6 +1,6 @@
 use Rattle.std.proofs.Common.{List, ℕ, ◌∷◌, [], ◌∙◌, ap, map, sym, refl}
 use Rattle.std.specs.Prelude.{codes, string_bytes}
-use Rattle.urpf_cli.specs.Offline.{AreOfflineWords}
+use Rattle.urpf_cli.specs.Words.{AreOfflineWords}
 use Rattle.urpf_cli.proofs.Lines.{three_items, not_unequal}
 use Rattle.urpf_cli.proofs.words.are_offline.Goals as goal
 

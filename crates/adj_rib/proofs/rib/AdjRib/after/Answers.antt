@@ -1,30 +1,20 @@
-use Rattle.std.proofs.Common.{◌≡◌, ◌∷◌, sym, ap, ◌∙◌}
-use Rattle.std.specs.Option.{option_copied}
+use Rattle.std.proofs.Common.{ap, ◌∙◌}
+use Rattle.std.specs.Option.{IfSome, option_copied}
 use Rattle.adj_rib.specs.Routes.{pairs_after}
-use Rattle.adj_rib.proofs.Routes.{pairs_after-first, pairs_after-held, pairs_after-above}
-use Rattle.adj_rib.proofs.Viewed.{pairs_after-seen}
+use Rattle.adj_rib.proofs.Routes.{IsNext, if_some, next_is}
 use Rattle.adj_rib.proofs.rib.AdjRib.after.Goals as goal
 
--- the pairs that the range had left are the one that it gave, and then the others
-given : (c : goal.After-result-2-1) → pairs_after (option_copied c.args.prefix) c.args.self.now ≡ (c.in-Some.pair.0.now, c.in-Some.pair.1.now) ∷ c.next.new.self
+-- what the walk gives first
+given : (c : goal.After-next) → IfSome c.next.result (IsNext (option_copied c.args.prefix) c.args.self.now)
 given c =
-    ap (pairs_after (option_copied c.args.prefix)) (sym c.self.view_is)
-    ∙ pairs_after-seen _ _ c.self.inside.routes.entries c.self.invariant c.start_of.ensures
-    ∙ sym (c.range-pairs.ensures.between tt)
-    ∙ c.in-Some.ensures.steps
+    next_is (option_copied c.args.prefix) c.args.self.now c.next.result c.pairs_after.result c.next.new.self
+    (c.pairs_after.ensures.list ∙ ap (pairs_after (option_copied c.args.prefix)) c.self.view_is) c.next.ensures.steps
 
 pub returns-clause-held : goal.returns-clause-held
-returns-clause-held c = pairs_after-held (option_copied c.args.prefix) c.args.self.now (c.in-Some.pair.0.now, c.in-Some.pair.1.now) c.next.new.self (given c)
+returns-clause-held c = if_some c.next.result (given c) (λ r is. is.held)
 
 pub returns-clause-above : goal.returns-clause-above
-returns-clause-above c = pairs_after-above (option_copied c.args.prefix) c.args.self.now (c.in-Some.pair.0.now, c.in-Some.pair.1.now) c.next.new.self (given c)
+returns-clause-above c = if_some c.next.result (given c) (λ r is. is.above)
 
 pub returns-clause-first : goal.returns-clause-first
-returns-clause-first c = pairs_after-first (option_copied c.args.prefix) c.args.self.now (c.in-Some.pair.0.now, c.in-Some.pair.1.now) c.next.new.self (given c)
-
-pub returns-in_default-clause-end : goal.returns-in_default-clause-end
-returns-in_default-clause-end c =
-    ap (pairs_after (option_copied c.args.prefix)) (sym c.self.view_is)
-    ∙ pairs_after-seen _ _ c.self.inside.routes.entries c.self.invariant c.start_of.ensures
-    ∙ sym (c.range-pairs.ensures.between tt)
-    ∙ c.in_default.ensures.steps.0
+returns-clause-first c = if_some c.next.result (given c) (λ r is. is.first)

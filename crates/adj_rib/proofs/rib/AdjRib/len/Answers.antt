@@ -1,7 +1,8 @@
-use Rattle.std.proofs.Common.{sym, ◌∙◌, ap, length}
-use Rattle.adj_rib.specs.Routes.{prefixes_of}
-use Rattle.adj_rib.proofs.Viewed.{length-seen}
+use Rattle.std.proofs.Common.{ap, length, sym, ◌∙◌}
+use Rattle.std.proofs.lemmas.List.{length-map}
+use Rattle.std.specs.FinMap.{len, len-entries}
+use Rattle.adj_rib.specs.Routes.{pairs_of}
 use Rattle.adj_rib.proofs.rib.AdjRib.len.Goals as goal
 
 pub returns-clause-count : goal.returns-clause-count
-returns-clause-count c = c.len.ensures.len ∙ sym (length-seen c.self.inside.routes.entries c.self.invariant) ∙ ap (λ m. length (prefixes_of m)) c.self.view_is
+returns-clause-count c = c.len.ensures.count ∙ ap len c.self.view_is ∙ len-entries c.args.self.now ∙ sym (length-map (pairs_of c.args.self.now) (λ e. e.0))

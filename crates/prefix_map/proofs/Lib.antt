@@ -1,0 +1,11 @@
+pub mod Covering
+pub mod Halves
+pub mod Held
+pub mod Joined
+pub mod Merge
+pub mod Order
+pub mod Outcomes
+pub mod Seen
+pub mod Sides
+pub mod Sorted
+pub mod Walk

@@ -1,0 +1,5 @@
+pub mod Beside
+pub mod Kept
+pub mod Keys
+pub mod Mapped
+pub mod Order

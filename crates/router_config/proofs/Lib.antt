@@ -1,0 +1,4 @@
+pub mod Ascending
+pub mod Found
+pub mod Views
+pub mod Walk

@@ -1,0 +1,80 @@
+//! The configuration of a router: its interfaces and its sessions.
+ghost use Rattle.std.specs.Prelude.{◌≡◌, ◌<◌, IfOk, Some, length, slice_get};
+ghost use Rattle.router_config.specs.Edits.{edited};
+ghost use Rattle.router_config.specs.Kinds.{IsAscending, kind_in};
+
+use crate::edits::Edit;
+use crate::kinds::Kinds;
+use std::marker::Model;
+use urpf_base::{IfaceId, Kind, OutOfMemory, SessionConfig};
+
+/// What a router is configured with. Contracts see it as its interfaces, each with its kind, by
+/// ascending number, and its sessions in their order.
+#[derive(Drop)]
+pub struct Config {
+    kinds: Kinds,
+    sessions: Vec<SessionConfig>,
+}
+
+impl Model for Config {
+    ghost use Rattle.router_config.specs.Settings.{Settings};
+
+    ghost Value = { Settings };
+
+    ghost view = { λ c. record { interfaces = c.kinds; sessions = c.sessions.items } };
+}
+
+impl Config {
+    /// The configuration with these interfaces and sessions.
+    pub(crate) fn new(kinds: Kinds, sessions: Vec<SessionConfig>) -> Config
+        ensures { result ≡ record { interfaces = kinds; sessions = sessions.items } }
+    {
+        Config { kinds, sessions }
+    }
+
+    /// The kind of an interface. None where it is not configured.
+    pub fn kind(&self, id: IfaceId) -> Option<Kind>
+        ensures { result ≡ kind_in self.now.interfaces id }
+    {
+        self.kinds.kind(id)
+    }
+
+    /// How many sessions there are.
+    pub fn sessions(&self) -> usize
+        ensures { result ≡ length self.now.sessions }
+    {
+        self.sessions.len()
+    }
+
+    /// Session `s`, counted from 0.
+    pub fn session(&self, s: usize) -> SessionConfig
+        requires { s < length self.now.sessions }
+        ensures { slice_get self.now.sessions s ≡ Some result }
+    {
+        self.sessions[s]
+    }
+
+    /// How many interfaces there are.
+    pub fn interfaces(&self) -> usize
+        ensures { result ≡ length self.now.interfaces }
+    {
+        self.kinds.len()
+    }
+
+    /// A copy of the interfaces, each with its kind.
+    pub fn kinds(&self) -> Result<Kinds, OutOfMemory>
+        ensures value { IfOk result (λ kinds. kinds ≡ self.now.interfaces) }
+        ensures ascending { IsAscending self.now.interfaces }
+    {
+        let _ = self.kinds.items();
+        self.kinds.copied()
+    }
+
+    /// Changes the role or the mode of the interface that the edit names.
+    pub(crate) fn apply(&mut self, edit: &Edit)
+        ensures interfaces { self.new.interfaces ≡ edited edit.now self.old.interfaces }
+        ensures sessions { self.new.sessions ≡ self.old.sessions }
+    {
+        self.kinds.apply(edit);
+    }
+}

@@ -1,0 +1,11 @@
+pub mod Cells
+pub mod Collected
+pub mod Counts
+pub mod Drained
+pub mod Engine
+pub mod Judge
+pub mod Keys
+pub mod Pairs
+pub mod Passes
+pub mod Rows
+pub mod Sets

@@ -6,14 +6,14 @@ use super::prefixes::prefixes_of;
 use std::alloc::{AllocError, Global};
 
 /// What the peer's OPEN told: AS numbers of four octets or of two, and whether IPv6 was listed.
-#[derive(Clone, Copy, Debug, PartialEq, Eq)]
+#[derive(Clone, Copy, Debug)]
 pub struct Told {
     pub is_four: bool,
     pub lists_v6: bool,
 }
 
 /// An attribute.
-#[derive(Clone, Copy, Debug)]
+#[derive(Clone, Copy)]
 pub struct PlainAttribute<'a> {
     pub flags: u8,
     pub code: u8,

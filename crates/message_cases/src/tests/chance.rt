@@ -7,7 +7,7 @@ const MULTIPLIER: u64 = 6_364_136_223_846_793_005;
 const INCREMENT: u64 = 1_442_695_040_888_963_407;
 
 /// Where the numbers have come to.
-#[derive(Clone, Copy, Debug)]
+#[derive(Drop)]
 pub struct Chance {
     state: u64,
 }

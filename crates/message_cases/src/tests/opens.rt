@@ -14,7 +14,7 @@ pub struct PlainOpen {
 }
 
 /// A parameter, or a capability in one.
-#[derive(Clone, Copy, Debug, PartialEq, Eq)]
+#[derive(Clone, Copy)]
 struct PlainField<'a> {
     code: u8,
     value: &'a [u8],

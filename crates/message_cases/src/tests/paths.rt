@@ -13,7 +13,7 @@ pub enum PlainHop {
 }
 
 /// A segment, and what comes after it.
-#[derive(Clone, Copy, Debug)]
+#[derive(Clone, Copy)]
 struct PlainSegment<'a> {
     is_set: bool,
     numbers: &'a [u8],

@@ -17,7 +17,7 @@ pub struct PlainUpdate {
 }
 
 /// The three fields of a body.
-#[derive(Clone, Copy, Debug)]
+#[derive(Clone, Copy)]
 struct PlainFields<'a> {
     withdrawn: &'a [u8],
     attributes: &'a [u8],

@@ -21,6 +21,3 @@ pub use laws::{
 pub use limits::{ITEM_LIMIT, Limits, OCTET_LIMIT, RunFault};
 pub use offering::offer;
 pub use table::{apply_item, apply_update, one_more_update};
-
-#[cfg(test)]
-mod tests;

@@ -19,6 +19,3 @@ pub use opening::BOOK_OCTETS;
 pub use status::{Object, Status};
 pub use status_text::{exit_code, put_status};
 pub use words::{Command, read_command};
-
-#[cfg(test)]
-mod tests;

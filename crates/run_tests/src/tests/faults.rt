@@ -1,13 +1,11 @@
-//! `offline` where it is refused or cannot go on: the status, and the front of the text that was
-//! written.
-use crate::tests::events::{
-    Event, HEAD, mem_feed, offline, offline_words, sure_feed, trace, trace_feed,
-};
-use crate::tests::running::{ALL_AT_ONCE, FULL};
-use crate::{BOOK_OCTETS, Object, Status, offline_feed};
+//! `offline` where it is refused or its feed cannot go on: the status, and the front of the text that
+//! was written.
+use crate::tests::events::{Event, FULL, mem_feed, trace, trace_feed};
+use crate::tests::runs::{ALL_AT_ONCE, HEAD, OFFLINE, offline, words};
 use feed_io::{MemSource, SureSink, SureSource};
 use runbook::BookKind;
 use std::test::Fail;
+use urpf_cli::{BOOK_OCTETS, Object, Status, offline_feed};
 
 #[test]
 fn a_book_that_is_refused_leaves_the_feed_alone(rt: HostRuntime) -> Result<(), Fail> {
@@ -30,7 +28,7 @@ fn a_book_that_is_refused_leaves_the_feed_alone(rt: HostRuntime) -> Result<(), F
 #[test]
 fn a_book_past_its_limit_is_too_long(rt: HostRuntime) -> Result<(), Fail> {
     let alloc = rt.alloc();
-    let words = offline_words(alloc)?;
+    let words = words(alloc, &OFFLINE)?;
     let mut book = SureSource::new(vec![in alloc; 0; BOOK_OCTETS + 1]?);
     let mut feed = mem_feed(alloc, &FULL, &[1])?;
     let status = offline_feed(alloc, &words, &mut book, &mut feed, &mut SureSink::new());
@@ -45,7 +43,7 @@ fn a_book_past_its_limit_is_too_long(rt: HostRuntime) -> Result<(), Fail> {
 #[test]
 fn a_failed_read_of_the_book_is_told(rt: HostRuntime) -> Result<(), Fail> {
     let alloc = rt.alloc();
-    let words = offline_words(alloc)?;
+    let words = words(alloc, &OFFLINE)?;
     let fails = Vec::from_slice(alloc, &[1])?;
     let mut book = MemSource::new(Vec::new(alloc), fails);
     let mut feed = mem_feed(alloc, &FULL, &[1])?;
@@ -65,29 +63,11 @@ fn words_of_no_form_are_told_first(rt: HostRuntime) -> Result<(), Fail> {
         &["check", "book", "trace"],
     ];
     for row in rows {
-        let mut words = Vec::new(alloc);
-        for word in row {
-            words.push(String::from_str(alloc, word)?)?;
-        }
+        let words = words(alloc, row)?;
         let mut book = MemSource::new(Vec::new(alloc), Vec::from_slice(alloc, &[1])?);
         let mut feed = mem_feed(alloc, &[], &[1])?;
         let status = offline_feed(alloc, &words, &mut book, &mut feed, &mut SureSink::new());
         assert_eq!(rt; status, Status::Usage);
-    }
-    Ok(())
-}
-
-#[test]
-fn a_sink_that_fails_has_a_front_of_the_text(rt: HostRuntime) -> Result<(), Fail> {
-    let alloc = rt.alloc();
-    let run_line = "run interfaces 1 sessions 1 pairs 0 skipped 0\n";
-    let to_the_end = format!(in alloc; "{HEAD}end 0 items 4 rest 0\n")?;
-    let rows: [(u64, &str); 4] = [(1, ""), (2, run_line), (3, HEAD), (4, to_the_end.as_str())];
-    for (write, wanted) in rows {
-        let mut feed = sure_feed(alloc, &FULL)?;
-        let (status, text) = offline(alloc, ALL_AT_ONCE, &mut feed, &[write])?;
-        assert_eq!(rt; status, Status::WriteFault, "at write {write}");
-        assert_eq!(rt; text.as_slice(), wanted.as_bytes(), "at write {write}");
     }
     Ok(())
 }

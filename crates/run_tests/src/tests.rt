@@ -1,0 +1,14 @@
+//! What no clause says: worked streams with their lines, worked runs with their texts, how a sink and
+//! a feed are asked, and that calls succeed where memory is ample.
+mod asking;
+mod checking;
+mod events;
+mod faults;
+mod header_faults;
+mod hold_times;
+mod offering;
+mod pulls;
+mod resets;
+mod running;
+mod runs;
+mod telling;

@@ -1,0 +1,111 @@
+//! What command lines ask for, and what statuses say and end the program with.
+use crate::tests::runs::words;
+use runbook::BookKind;
+use std::process::Abort;
+use std::test::Fail;
+use urpf_base::{Addr, Line};
+use urpf_cli::{
+    Command, Object, Status, assigned_numbers, exit_code, one_run_text, put_status, read_command,
+};
+
+/// Statuses, the line of each on standard error, and the number that the program ends with.
+const STATUSES: [(Status, &str, u8); 15] = [
+    (Status::Done, "", 0),
+    (
+        Status::Usage,
+        "urpf: usage: check SESSION SOURCE | offline CONFIG BOOK PAIRS S... | live CONFIG BOOK PAIRS S... : P...\n",
+        2,
+    ),
+    (
+        Status::BadBook {
+            line: 2,
+            kind: BookKind::Syntax,
+        },
+        "urpf: book line 2 Syntax\n",
+        4,
+    ),
+    (
+        Status::BadBook {
+            line: 4_294_967_295,
+            kind: BookKind::Session,
+        },
+        "urpf: book line 4294967295 Session\n",
+        4,
+    ),
+    (
+        Status::BadBook {
+            line: 1,
+            kind: BookKind::Iface,
+        },
+        "urpf: book line 1 Iface\n",
+        4,
+    ),
+    (Status::TooLong(Object::Book), "urpf: book too long\n", 7),
+    (Status::TooLong(Object::Stream), "urpf: stream too long\n", 7),
+    (Status::ReadFault(Object::Stream), "urpf: read fault on stream\n", 8),
+    (Status::ReadFault(Object::Session(0)), "urpf: read fault on session 0\n", 8),
+    (Status::WriteFault, "urpf: write fault\n", 9),
+    (Status::ItemLimit { session: 0 }, "urpf: session 0 at item limit\n", 11),
+    (
+        Status::OctetLimit {
+            session: 4_294_967_295,
+        },
+        "urpf: session 4294967295 at octet limit\n",
+        11,
+    ),
+    (
+        Status::BadSession {
+            code: 1,
+            sub: 2,
+            place: 3,
+        },
+        "urpf: message 3 fault 1 2\n",
+        13,
+    ),
+    (Status::Unsupported { place: 4 }, "urpf: message 4 not supported\n", 14),
+    (Status::OutOfMemory, "urpf: out of memory\n", 16),
+];
+
+/// That the status is told so, and ends the program so.
+fn is_told(rt: &impl Abort, status: Status, text: &str, exit: u8) {
+    let mut line = Line::new();
+    put_status(&status, &mut line);
+    assert_eq!(rt; line.bytes(), text.as_bytes());
+    assert_eq!(rt; exit_code(&status), exit, "with {text}");
+}
+
+#[test]
+fn each_status_has_its_text_and_its_number(rt: HostRuntime) {
+    assigned_numbers();
+    one_run_text();
+    for (status, text, exit) in STATUSES {
+        is_told(&rt, status, text, exit);
+    }
+}
+
+/// Words of command lines, and what they ask for.
+const COMMANDS: [(&[&str], Option<Command>); 9] = [
+    (&[], None),
+    (&["offline", "book", "trace"], Some(Command::Offline)),
+    (&["offline", "book"], None),
+    (&["offline", "book", "trace", "trace"], None),
+    (&["Offline", "book", "trace"], None),
+    (
+        &["check", "session", "198.51.100.9"],
+        Some(Command::Check {
+            source: Addr::V4(0xC633_6409),
+        }),
+    ),
+    (&["check", "session", "198.51.100.09"], None),
+    (&["check", "book", "trace"], None),
+    (&["check", "198.51.100.9"], None),
+];
+
+#[test]
+fn words_ask_for_a_command_or_fit_none(rt: HostRuntime) -> Result<(), Fail> {
+    for (line, wanted) in COMMANDS {
+        let words = words(rt.alloc(), line)?;
+        assert_eq!(rt; read_command(&words), wanted, "of {words:?}");
+    }
+    Ok(())
+}

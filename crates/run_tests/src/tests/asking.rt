@@ -55,8 +55,7 @@ fn a_feed_is_asked_no_more_after_its_end(rt: HostRuntime) -> Result<(), Fail> {
     };
     let book = "pull 0 all\npull 0 all\npull 0 all\n";
     let (status, text) = offline(alloc, book, &mut feed, &[])?;
-    let wanted =
-        format!(in alloc; "{HEAD}end 0 items 4 rest 0\ndone publications 0 packets 0\n")?;
+    let wanted = format!(in alloc; "{HEAD}end 0 items 4 rest 0\ndone publications 0 packets 0\n")?;
     assert_eq!(rt; status, Status::Done);
     assert_eq!(rt; text.as_slice(), wanted.as_bytes());
     assert_eq!(rt; feed.calls, CALLS_TO_THE_END);

@@ -119,28 +119,48 @@ fn a_source_is_judged_by_the_prefixes_that_are_left(rt: HostRuntime) -> Result<(
     Ok(())
 }
 
-/// What a fault of a header or of an UPDATE is told as: code, subcode and place.
-const fn fault(code: u8, sub: u8, place: u64) -> Status {
-    Status::BadSession { code, sub, place }
-}
-
-/// The parts of a stream, and the first message of it that cannot be read.
-const REFUSED: [(&str, &[&[u8]], Status); 9] = [
-    ("a length of 18", &[&HEADER_OF_18], fault(1, 2, 1)),
-    ("a length of 4097", &[&MARKER, &[0x10, 0x01, 0x02]], fault(1, 2, 1)),
-    ("a KEEPALIVE of 20 octets", &[&MARKER, &[0x00, 0x14, 0x04, 0x00]], fault(1, 2, 1)),
-    ("type 5", &[&ROUTE_REFRESH], fault(1, 3, 1)),
-    ("a broken marker", &[&BROKEN_MARKER], fault(1, 1, 1)),
-    ("an OPEN", &[&KEEPALIVE, &OPEN], Status::Unsupported { place: 2 }),
-    ("a NOTIFICATION", &[&NOTIFICATION], Status::Unsupported { place: 1 }),
-    ("an UPDATE without an ORIGIN", &[&ANNOUNCE, &NO_ORIGIN], fault(3, 3, 2)),
-    ("a fault in the third message", &[&KEEPALIVE, &ANNOUNCE, &HEADER_OF_18], fault(1, 2, 3)),
+/// The parts of a stream, and the first message of it that cannot be read: its code and subcode, or
+/// none where it is of a kind that is not read, and its place.
+const REFUSED: [(&str, &[&[u8]], Option<(u8, u8)>, u64); 9] = [
+    ("a length of 18", &[&HEADER_OF_18], Some((1, 2)), 1),
+    (
+        "a length of 4097",
+        &[&MARKER, &[0x10, 0x01, 0x02]],
+        Some((1, 2)),
+        1,
+    ),
+    (
+        "a KEEPALIVE of 20 octets",
+        &[&MARKER, &[0x00, 0x14, 0x04, 0x00]],
+        Some((1, 2)),
+        1,
+    ),
+    ("type 5", &[&ROUTE_REFRESH], Some((1, 3)), 1),
+    ("a broken marker", &[&BROKEN_MARKER], Some((1, 1)), 1),
+    ("an OPEN", &[&KEEPALIVE, &OPEN], None, 2),
+    ("a NOTIFICATION", &[&NOTIFICATION], None, 1),
+    (
+        "an UPDATE without an ORIGIN",
+        &[&ANNOUNCE, &NO_ORIGIN],
+        Some((3, 3)),
+        2,
+    ),
+    (
+        "a fault in the third message",
+        &[&KEEPALIVE, &ANNOUNCE, &HEADER_OF_18],
+        Some((1, 2)),
+        3,
+    ),
 ];
 
 #[test]
 fn the_first_message_that_cannot_be_read_is_named(rt: HostRuntime) -> Result<(), Fail> {
     let alloc = rt.alloc();
-    for (name, parts, wanted) in REFUSED {
+    for (name, parts, fault, place) in REFUSED {
+        let wanted = match fault {
+            Some((code, sub)) => Status::BadSession { code, sub, place },
+            None => Status::Unsupported { place },
+        };
         let stream = joined(alloc, parts)?;
         let (status, text) = check(alloc, &stream, "198.51.100.9", &[], &[])?;
         assert_eq!(rt; status, wanted, "{name}");

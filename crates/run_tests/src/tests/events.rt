@@ -61,11 +61,7 @@ fn append(sure: &mut SureFeed, mem: &mut MemFeed, event: Event<'_>) -> Result<()
 }
 
 /// Both feeds in memory of these events. These calls of the second fail, by their numbers from 1.
-fn feeds(
-    alloc: Global,
-    events: &[Event<'_>],
-    fails: &[u64],
-) -> Result<(SureFeed, MemFeed), Fail> {
+fn feeds(alloc: Global, events: &[Event<'_>], fails: &[u64]) -> Result<(SureFeed, MemFeed), Fail> {
     let mut sure = SureFeed::new(alloc);
     let mut mem = MemFeed::new(alloc, Vec::from_slice(alloc, fails)?);
     for event in events {

@@ -13,7 +13,14 @@ const FRONT: [u8; 18] = [
 const ROWS: [Row<'static>; 5] = [
     Row {
         name: "90 seconds in two parts",
-        events: &[Event::Up, AN_OPEN, A_KEEPALIVE, AN_UPDATE, Event::Elapsed(89), Event::Elapsed(1)],
+        events: &[
+            Event::Up,
+            AN_OPEN,
+            A_KEEPALIVE,
+            AN_UPDATE,
+            Event::Elapsed(89),
+            Event::Elapsed(1),
+        ],
         resets: "reset 0 item 6 fault 4 0\n",
         items: 6,
         rest: 0,
@@ -21,7 +28,15 @@ const ROWS: [Row<'static>; 5] = [
     },
     Row {
         name: "a KEEPALIVE between them",
-        events: &[Event::Up, AN_OPEN, A_KEEPALIVE, AN_UPDATE, Event::Elapsed(89), A_KEEPALIVE, Event::Elapsed(89)],
+        events: &[
+            Event::Up,
+            AN_OPEN,
+            A_KEEPALIVE,
+            AN_UPDATE,
+            Event::Elapsed(89),
+            A_KEEPALIVE,
+            Event::Elapsed(89),
+        ],
         resets: "",
         items: 7,
         rest: 0,
@@ -45,7 +60,14 @@ const ROWS: [Row<'static>; 5] = [
     },
     Row {
         name: "240 seconds without an OPEN",
-        events: &[Event::Up, Event::Elapsed(239), Event::Elapsed(1), AN_OPEN, A_KEEPALIVE, AN_UPDATE],
+        events: &[
+            Event::Up,
+            Event::Elapsed(239),
+            Event::Elapsed(1),
+            AN_OPEN,
+            A_KEEPALIVE,
+            AN_UPDATE,
+        ],
         resets: "reset 0 item 3 fault 4 0\n",
         items: 6,
         rest: 0,
@@ -53,7 +75,13 @@ const ROWS: [Row<'static>; 5] = [
     },
     Row {
         name: "the most seconds at once",
-        events: &[Event::Up, AN_OPEN, A_KEEPALIVE, AN_UPDATE, Event::Elapsed(4_294_967_295)],
+        events: &[
+            Event::Up,
+            AN_OPEN,
+            A_KEEPALIVE,
+            AN_UPDATE,
+            Event::Elapsed(4_294_967_295),
+        ],
         resets: "reset 0 item 5 fault 4 0\n",
         items: 5,
         rest: 0,

@@ -111,7 +111,10 @@ fn each_line_is_offered_whole_in_one_write(rt: HostRuntime) -> Result<(), Fail> 
     let words = words(alloc, &["check", "session", "198.51.100.9"])?;
     let mut session = SureSource::new(Vec::from_slice(alloc, &ANNOUNCE)?);
     out = PieceSink::new(alloc);
-    assert_eq!(rt; check_one(alloc, &words, &mut session, &mut out), Status::Done);
+    assert_eq!(rt;
+        check_one(alloc, &words, &mut session, &mut out),
+        Status::Done
+    );
     let line = "check 198.51.100.9 pass messages 1 prefixes 1 rest 0\n";
     are_pieces(&rt, &out, &[line]);
     Ok(())

@@ -41,11 +41,27 @@ const STATUSES: [(Status, &str, u8); 15] = [
         4,
     ),
     (Status::TooLong(Object::Book), "urpf: book too long\n", 7),
-    (Status::TooLong(Object::Stream), "urpf: stream too long\n", 7),
-    (Status::ReadFault(Object::Stream), "urpf: read fault on stream\n", 8),
-    (Status::ReadFault(Object::Session(0)), "urpf: read fault on session 0\n", 8),
+    (
+        Status::TooLong(Object::Stream),
+        "urpf: stream too long\n",
+        7,
+    ),
+    (
+        Status::ReadFault(Object::Stream),
+        "urpf: read fault on stream\n",
+        8,
+    ),
+    (
+        Status::ReadFault(Object::Session(0)),
+        "urpf: read fault on session 0\n",
+        8,
+    ),
     (Status::WriteFault, "urpf: write fault\n", 9),
-    (Status::ItemLimit { session: 0 }, "urpf: session 0 at item limit\n", 11),
+    (
+        Status::ItemLimit { session: 0 },
+        "urpf: session 0 at item limit\n",
+        11,
+    ),
     (
         Status::OctetLimit {
             session: 4_294_967_295,
@@ -62,7 +78,11 @@ const STATUSES: [(Status, &str, u8); 15] = [
         "urpf: message 3 fault 1 2\n",
         13,
     ),
-    (Status::Unsupported { place: 4 }, "urpf: message 4 not supported\n", 14),
+    (
+        Status::Unsupported { place: 4 },
+        "urpf: message 4 not supported\n",
+        14,
+    ),
     (Status::OutOfMemory, "urpf: out of memory\n", 16),
 ];
 

@@ -7,13 +7,10 @@ ghost use Rattle.urpf_cli.specs.RunText.{Inputs, IsRunText};
 use crate::check::STREAM_OCTETS;
 use crate::opening::BOOK_OCTETS;
 use crate::run::{HOLD_SECONDS, MAX_PREFIXES, PEER_AS};
-use crate::session::{MESSAGE_HEADER_ERROR, UPDATE_MESSAGE_ERROR};
 
-/// The error codes have the numbers that the standard assigns (RFC 4271, section 4.5), the limits
-/// are 16 MiB and 1 MiB, and session 0 has its peer, hold time and maximum of prefixes. Contracts and
-/// definitions cite them by name.
+/// The limits are 16 MiB and 1 MiB, and session 0 has its peer, hold time and maximum of prefixes.
+/// Contracts and definitions cite them by name.
 pub fn assigned_numbers()
-    ensures codes { (MESSAGE_HEADER_ERROR ≡ 1) × (UPDATE_MESSAGE_ERROR ≡ 3) }
     ensures limits { (STREAM_OCTETS ≡ 16777216) × (BOOK_OCTETS ≡ 1048576) }
     ensures session { (PEER_AS ≡ 64501) × (HOLD_SECONDS ≡ 90) × (MAX_PREFIXES ≡ 2000000) }
 {}

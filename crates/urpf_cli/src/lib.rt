@@ -18,7 +18,7 @@ pub use offline::offline_feed;
 pub use opening::BOOK_OCTETS;
 pub use status::{Object, Status};
 pub use status_text::{exit_code, put_status};
-pub use words::{Command, read_command};
+pub use words::{Command, asks_offline, read_command};
 
 #[cfg(test)]
 mod tests;

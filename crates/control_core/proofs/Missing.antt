@@ -1,13 +1,12 @@
--- The prefixes of one table that another lacks, and walks that count them or copy a table.
-use Rattle.std.proofs.Common.{◌≡◌, ◌⊎◌, ℕ, ◌+◌, Bool, true, false, cond, List, [], ◌∷◌, ◌++◌, length, map, Option, Some, None, inl, inr, refl, sym, ap, subst, ◌∙◌, length-append, arith}
+-- The prefixes of one table that another lacks, and a walk that counts them.
+use Rattle.std.proofs.Common.{◌≡◌, ◌⊎◌, ℕ, ◌+◌, Bool, true, false, cond, List, [], ◌∷◌, ◌++◌, length, map, Option, Some, None, inl, inr, refl, sym, ap, ◌∙◌, length-append, arith}
 use Rattle.std.specs.Prelude.{IsSome, IsNone, is_none}
 use Rattle.std.specs.List.{filter}
 use Rattle.std.proofs.lemmas.List.{length-map}
 use Rattle.urpf_base.specs.Address.{Block}
 use Rattle.urpf_base.specs.Lists.{Has, AreDistinct}
-use Rattle.adj_rib.specs.Routes.{Routes, routes_at, prefixes_of, pairs_of, pairs_after, ChangesAt}
-use Rattle.urpf_base.proofs.Membership.{same_block}
-use Rattle.adj_rib.proofs.Routes.{is_distinct, has_held, has_pair, same_routes, pairs_after-none}
+use Rattle.adj_rib.specs.Routes.{Routes, routes_at, prefixes_of, pairs_of, pairs_after}
+use Rattle.adj_rib.proofs.Routes.{is_distinct, has_held, pairs_after-none}
 use Rattle.control_core.specs.Differences.{CameOrWent, IsDifference, lacks, missing}
 
 has-append : {X : Type 0} (xs ys : List X) (x : X) → Has (xs ++ ys) x → Has xs x ⊎ Has ys x
@@ -116,58 +115,6 @@ keys_long table = length-map (pairs_of table) (λ (e : Block × Option ℕ). e.0
 -- every pair of a table is to come at first
 pub all_to_come : (table other : Routes) → lacking other (pairs_after None table) ≡ missing table other
 all_to_come table other = ap (lacking other) (pairs_after-none table)
-
--- a walk that copies a table: what is still to come is not there yet, and all else is
-pub record IsCopied (table : Routes) (left : List (Block × Option ℕ)) (copy : Routes) : Type 0 where
-  pub there : (p : Block) (origin : Option ℕ) → routes_at table p ≡ Some origin → Has left (p, origin) ⊎ (routes_at copy p ≡ Some origin)
-  pub none : (p : Block) → routes_at table p ≡ None → routes_at copy p ≡ None
-  pub part : (p : Block) (origin : Option ℕ) → Has left (p, origin) → routes_at table p ≡ Some origin
-
-pub copy_begins : (table copy : Routes) → ((p : Block) → routes_at copy p ≡ None) → IsCopied table (pairs_after None table) copy
-copy_begins table copy empty = record {
-  there = λ p origin is. inl (rw (pairs_after-none table) ((has_pair table p origin).1 is));
-  none = λ p is. empty p;
-  part = λ p origin has. (has_pair table p origin).0 (rw (pairs_after-none table) at has);
-}
-
--- a pair other than the one that was set
-still_there : (r : Block × Option ℕ) (p : Block) (origin : Option ℕ) (t : List (Block × Option ℕ)) (old new : Routes) → ChangesAt r.0 (Some r.1) old new → (p ≡ r.0 → ⊥) → Has (r ∷ t) (p, origin) ⊎ (routes_at old p ≡ Some origin) → Has t (p, origin) ⊎ (routes_at new p ≡ Some origin)
-still_there r p origin t old new change other (inl (inl same)) = absurd (other (ap (λ x. x.0) same))
-still_there r p origin t old new change other (inl (inr later)) = inl later
-still_there r p origin t old new change other (inr is) = inr (change.others p other ∙ is)
-
-copied_pair : (table : Routes) (r : Block × Option ℕ) (t : List (Block × Option ℕ)) (old new : Routes) → IsCopied table (r ∷ t) old → ChangesAt r.0 (Some r.1) old new → (p : Block) (origin : Option ℕ) → routes_at table p ≡ Some origin → Has t (p, origin) ⊎ (routes_at new p ≡ Some origin)
-copied_pair table r t old new copy change p origin is =
-    elim (same_block p r.0) [
-      | inl same ↦ inr (ap (routes_at new) same ∙ change.here ∙ sym (copy.part r.0 r.1 (inl refl)) ∙ ap (routes_at table) (sym same) ∙ is)
-      | inr other ↦ still_there r p origin t old new change other (copy.there p origin is)
-    ]
-
-copied_none : (table : Routes) (r : Block × Option ℕ) (t : List (Block × Option ℕ)) (old new : Routes) → IsCopied table (r ∷ t) old → ChangesAt r.0 (Some r.1) old new → (p : Block) → routes_at table p ≡ None → routes_at new p ≡ None
-copied_none table r t old new copy change p none =
-    elim (same_block p r.0) [
-      | inl same ↦ let there = copy.part r.0 r.1 (inl refl) in let gone = ap (routes_at table) (sym same) ∙ none in cc
-      | inr other ↦ change.others p other ∙ copy.none p none
-    ]
-
-pub copy_goes_on : (table : Routes) (r : Block × Option ℕ) (left t : List (Block × Option ℕ)) (old new : Routes) → left ≡ r ∷ t → IsCopied table left old → ChangesAt r.0 (Some r.1) old new → IsCopied table t new
-copy_goes_on table r left t old new is before change =
-    let copy : IsCopied table (r ∷ t) old = subst (λ (l : List (Block × Option ℕ)). IsCopied table l old) is before in
-    record {
-      there = copied_pair table r t old new copy change;
-      none = copied_none table r t old new copy change;
-      part = λ p origin has. copy.part p origin (inr has);
-    }
-
-copied_at : (table copy : Routes) (p : Block) (o : Option (Option ℕ)) → IsCopied table [] copy → routes_at table p ≡ o → routes_at copy p ≡ routes_at table p
-copied_at table copy p None whole is = whole.none p is ∙ sym is
-copied_at table copy p (Some origin) whole is =
-    elim (whole.there p origin is) [ inl never ↦ absurd never | inr there ↦ there ∙ sym is ]
-
-pub copy_ends : (table copy : Routes) (left : List (Block × Option ℕ)) → left ≡ [] → IsCopied table left copy → copy ≡ table
-copy_ends table copy left end before =
-    let whole : IsCopied table [] copy = subst (λ (l : List (Block × Option ℕ)). IsCopied table l copy) end before in
-    same_routes copy table (λ p. copied_at table copy p (routes_at table p) whole refl)
 
 -- what is to come after the first pair
 pub lacking-first : (other : Routes) (left : List (Block × Option ℕ)) (r : Block × Option ℕ) (t : List (Block × Option ℕ)) (b : Bool) → left ≡ r ∷ t → lacks other r.0 ≡ b → length (lacking other left) ≡ cond b (length (lacking other t) + 1) (length (lacking other t))

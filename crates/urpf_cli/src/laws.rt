@@ -1,7 +1,11 @@
 //! Laws on the text of a run, on limits and on assigned numbers, as contracts of functions without
 //! code.
 ghost use Rattle.std.specs.Prelude.{◌≡◌, ℕ, List};
+ghost use Rattle.control_core.specs.Items.{SameButCuts};
+ghost use Rattle.feed_io.specs.Events.{Event};
+ghost use Rattle.runbook.specs.Book.{IsBook};
 ghost use Rattle.runbook.specs.declared.lines.BookLine.{BookLine};
+ghost use Rattle.urpf_cli.specs.Offline.{IsOutput};
 ghost use Rattle.urpf_cli.specs.RunText.{Inputs, IsRunText};
 
 use crate::check::STREAM_OCTETS;
@@ -20,4 +24,14 @@ pub fn one_run_text()
     ensures some { (inputs : Inputs) (lines : List BookLine) → (text : List ℕ) × IsRunText inputs lines text }
     ensures only { (inputs : Inputs) (lines : List BookLine) (a b : List ℕ)
         → IsRunText inputs lines a → IsRunText inputs lines b → a ≡ b }
+{}
+
+/// A runbook and the events of a session have one output, however the octets are cut into events:
+/// the output of a run is a function of its inputs.
+pub fn one_output()
+    ensures some { (text : List ℕ) (rows : List (ℕ × BookLine)) (events : List Event)
+        → IsBook text rows → (output : List ℕ) × IsOutput text events output }
+    ensures only { (text : List ℕ) (events others : List Event) (output other : List ℕ)
+        → SameButCuts events others → IsOutput text events output → IsOutput text others other
+        → output ≡ other }
 {}

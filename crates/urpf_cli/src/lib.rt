@@ -13,7 +13,7 @@ mod status_text;
 mod words;
 
 pub use check::{STREAM_OCTETS, check_one};
-pub use laws::{assigned_numbers, one_run_text};
+pub use laws::{assigned_numbers, one_output, one_run_text};
 pub use offline::offline_feed;
 pub use opening::BOOK_OCTETS;
 pub use status::{Object, Status};

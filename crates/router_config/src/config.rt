@@ -1,5 +1,5 @@
 //! The configuration of a router: its interfaces and its sessions.
-ghost use Rattle.std.specs.Prelude.{◌≡◌, ◌<◌, IfOk, Some, length, slice_get};
+ghost use Rattle.std.specs.Prelude.{◌≡◌, ◌<◌, IfOk, IfSome, Some, length, slice_get};
 ghost use Rattle.router_config.specs.Edits.{edited};
 ghost use Rattle.router_config.specs.Kinds.{IsAscending, iface_in, kind_in};
 
@@ -41,7 +41,8 @@ impl Config {
 
     /// The configured interface with this number. None where there is none.
     pub fn iface(&self, number: u32) -> Option<IfaceId>
-        ensures { result ≡ iface_in self.now.interfaces number }
+        ensures value { result ≡ iface_in self.now.interfaces number }
+        ensures same { IfSome result (λ id. id ≡ number) }
     {
         self.kinds.iface(number)
     }

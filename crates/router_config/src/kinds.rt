@@ -1,6 +1,6 @@
 //! The interfaces of a router: a list of their numbers and kinds, that is looked up, compared and
 //! copied.
-ghost use Rattle.std.specs.Prelude.{◌≡◌, ◌↔◌, [], ◌∷◌, ◌++◌, IfOk, OnErr, OnOk, IsTrue, length};
+ghost use Rattle.std.specs.Prelude.{◌≡◌, ◌↔◌, [], ◌∷◌, ◌++◌, IfOk, IfSome, OnErr, OnOk, IsTrue, length};
 ghost use Rattle.router_config.specs.Kinds.{AllBelow, IsAscending, iface_in, kind_in};
 ghost use Rattle.router_config.specs.Edits.{edited, edited_row};
 
@@ -78,7 +78,8 @@ impl Kinds {
 
     /// The interface with this number. None where it is not in the list.
     pub fn iface(&self, number: u32) -> Option<IfaceId>
-        ensures { result ≡ iface_in self.now number }
+        ensures value { result ≡ iface_in self.now number }
+        ensures same { IfSome result (λ id. id ≡ number) }
     {
         iface_among(&self.rows, number)
     }
@@ -111,7 +112,8 @@ impl Kinds {
 
 /// The interface with this number. None where it is not in the list.
 fn iface_among(rows: &[(IfaceId, Kind)], number: u32) -> Option<IfaceId>
-    ensures { result ≡ iface_in rows.now number }
+    ensures value { result ≡ iface_in rows.now number }
+    ensures same { IfSome result (λ id. id ≡ number) }
 {
     for row in rows {
         if row.0.number() as u32 == number {

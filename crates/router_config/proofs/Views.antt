@@ -1,5 +1,5 @@
 -- What a table and an array of a document are seen as.
-use Rattle.std.proofs.Common.{◌≡◌, ◌||◌, Bool, true, false, cond, List, [], ◌∷◌, map, Option, Some, None, String, Vec, BTreeMap, Global, string_bytes, ℕ, refl, ap, sym, ◌∙◌}
+use Rattle.std.proofs.Common.{◌≡◌, ◌||◌, Bool, true, false, cond, List, [], ◌∷◌, map, Some, None, String, Vec, BTreeMap, Global, string_bytes, ℕ, refl, ap, sym, ◌∙◌}
 use Rattle.std.specs.BTreeMap.{keys}
 use Rattle.std.specs.List.{list_all, list_any}
 use Rattle.std.proofs.lemmas.List.Folds.{list_all-map}

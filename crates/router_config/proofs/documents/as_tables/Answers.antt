@@ -1,4 +1,3 @@
-use Rattle.std.proofs.Common.{sym, ap}
 use Rattle.router_config.proofs.Views.{as_tables-some, as_tables-none}
 use Rattle.router_config.proofs.documents.as_tables.Goals as goal
 

@@ -1,6 +1,5 @@
-use Rattle.std.proofs.Common.{map, ap, sym, ◌∙◌, ◌++◌}
+use Rattle.std.proofs.Common.{map, sym, ◌∙◌}
 use Rattle.toml.specs.View.{view}
-use Rattle.router_config.specs.Settings.{row_of}
 use Rattle.router_config.proofs.Found.{rows_below-zero, rows_below-more, rows_below-AllBelow}
 use Rattle.router_config.proofs.settings.kinds_of.Goals as goal
 

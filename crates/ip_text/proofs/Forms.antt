@@ -71,7 +71,8 @@ no_gap_at_end after e = omega (arith, ap length e)
 
 plain_once : (text : List ℕ) (n m : ℕ) → Plain text n → Plain text m → n ≡ m
 plain_once text n m f g =
-    f.number ∙ ap (λ gs. number_from_digits_after 65536 0 gs) (opens_once text [] [] f.groups g.groups f.opens g.opens).0
+    f.number
+    ∙ ap (λ gs. number_from_digits_after 65536 0 gs) (opens_once text [] [] f.groups g.groups f.opens g.opens).0
     ∙ sym g.number
 
 plain_or_short : (text : List ℕ) (n m : ℕ) → Plain text n → Short text m → ⊥

@@ -36,7 +36,8 @@ octet_lacks_dot a small = decimal_lacks a 46 (omega arith) (λ within. omega ari
 octet_once : (a b : ℕ) (rest left : List ℕ) → a < 256 → b < 256
     → decimal a ++ (46 ∷ rest) ≡ decimal b ++ (46 ∷ left) → (a ≡ b) × (rest ≡ left)
 octet_once a b rest left small small_too e =
-    let same = cut_once 46 (decimal a) (decimal b) rest left (octet_lacks_dot a small) (octet_lacks_dot b small_too) e in
+    let same = cut_once 46 (decimal a) (decimal b) rest left (octet_lacks_dot a small)
+    (octet_lacks_dot b small_too) e in
     (decimal_injective a b (omega arith) (omega arith) same.0, same.1)
 
 octets_once : (n m : ℕ) → n < 2 ^ 32 → m < 2 ^ 32 → n / 2 ^ 24 % 256 ≡ m / 2 ^ 24 % 256

@@ -20,7 +20,8 @@ pub has_held : (routes : Routes) (p : Block) → Has (prefixes_of routes) p ↔ 
 has_held routes p = held.has_held routes p
 
 -- the pairs are what the map has
-pub has_pair : (routes : Routes) (p : Block) (o : Option ℕ) → Has (pairs_of routes) (p, o) ↔ (routes_at routes p ≡ Some o)
+pub has_pair : (routes : Routes) (p : Block) (o : Option ℕ)
+    → Has (pairs_of routes) (p, o) ↔ (routes_at routes p ≡ Some o)
 has_pair routes p o = held.has_pair routes p o
 
 -- routes that have the same at each prefix are the same
@@ -39,28 +40,33 @@ pub no_prefixes : (routes : Routes) → routes ≡ empty → prefixes_of routes 
 no_prefixes routes is = ap (map (λ e. e.0)) (held.no_entries routes is)
 
 -- a pair was put in, or taken out
-pub set_changes : (inside old new : Routes) (p : Block) (o : Option ℕ) → inside ≡ old → new ≡ insert inside p o → ChangesAt p (Some o) old new
+pub set_changes : (inside old new : Routes) (p : Block) (o : Option ℕ) → inside ≡ old → new ≡ insert inside p o
+    → ChangesAt p (Some o) old new
 set_changes inside old new p o view is =
     let put : new ≡ insert old p o = is ∙ ap (λ m. insert m p o) view in
     record { here = held.set_here old new p o put; others = held.set_others old new p o put }
 
-pub gone_changes : (inside old new : Routes) (p : Block) → inside ≡ old → new ≡ remove inside p → ChangesAt p None old new
+pub gone_changes : (inside old new : Routes) (p : Block) → inside ≡ old → new ≡ remove inside p
+    → ChangesAt p None old new
 gone_changes inside old new p view is =
     let taken : new ≡ remove old p = is ∙ ap (λ m. remove m p) view in
     record { here = held.gone_here old new p taken; others = held.gone_others old new p taken }
 
--- the first of the pairs after a prefix is of the map, comes after the prefix, and behind it come those after its own prefix
+-- the first of the pairs after a prefix is of the map, comes after the prefix, and behind it come those after its own
+-- prefix
 pub record IsNext (start : Option Block) (routes : Routes) (r : Block × Option ℕ) : Type 0 where
   pub held : routes_at routes r.0 ≡ Some r.1
   pub above : is_after start r.0 ≡ true
   pub first : pairs_after start routes ≡ r ∷ pairs_after (Some r.0) routes
 
-pub next_is : (start : Option Block) (routes : Routes) (r : Option (Block × Option ℕ)) (all later : List (Block × Option ℕ)) → all ≡ pairs_after start routes → YieldsFirst (λ s. s) all r later
+pub next_is : (start : Option Block) (routes : Routes) (r : Option (Block × Option ℕ))
+    (all later : List (Block × Option ℕ)) → all ≡ pairs_after start routes → YieldsFirst (λ s. s) all r later
     → IfSome r (IsNext start routes)
 next_is start routes None all later is step = tt
 next_is start routes (Some r) all later is step =
     let list : pairs_after start routes ≡ r ∷ later = sym is ∙ step in
-    let there : Has (pairs_of routes) r × (is_after start r.0 ≡ true) = first_has start (pairs_of routes) r later list in
+    let there : Has (pairs_of routes) r × (is_after start r.0 ≡ true) = first_has start (pairs_of routes) r later list
+    in
     record {
       held = (has_pair routes r.0 r.1).0 there.0;
       above = there.1;

@@ -19,7 +19,8 @@ around (y ∷ ys) x (inr has) =
 middle : {X : Type 0} (front back : List X) (x z : X) → Has (front ++ x ∷ back) z → (z ≡ x) ⊎ Has (front ++ back) z
 middle [] back x z has = has
 middle (y ∷ front) back x z (inl is) = inr (inl is)
-middle (y ∷ front) back x z (inr has) = elim (middle front back x z has) [ inl is ↦ inl is | inr other ↦ inr (inr other) ]
+middle (y ∷ front) back x z (inr has) =
+    elim (middle front back x z has) [ inl is ↦ inl is | inr other ↦ inr (inr other) ]
 
 other : {X : Type 0} (front back : List X) (x z : X) → Has (front ++ back) z → Has (front ++ x ∷ back) z
 other [] back x z has = inr has
@@ -31,13 +32,15 @@ itself [] back x = inl refl
 itself (y ∷ front) back x = inr (itself front back x)
 
 -- the others are distinct, and the one in the middle is none of them
-distinct_others : {X : Type 0} (front back : List X) (x : X) → AreDistinct (front ++ x ∷ back) → AreDistinct (front ++ back) × (Has (front ++ back) x → ⊥)
+distinct_others : {X : Type 0} (front back : List X) (x : X) → AreDistinct (front ++ x ∷ back)
+    → AreDistinct (front ++ back) × (Has (front ++ back) x → ⊥)
 distinct_others [] back x distinct = (distinct.1, distinct.0)
 distinct_others (y ∷ front) back x distinct =
     let rest = distinct_others front back x distinct.1 in
     ((λ has. distinct.0 (other front back x y has), rest.0), none front back x y distinct.0 rest.1)
   where
-    none : {Z : Type 0} (front back : List Z) (x y : Z) → (Has (front ++ x ∷ back) y → ⊥) → (Has (front ++ back) x → ⊥) → Has (y ∷ (front ++ back)) x → ⊥
+    none : {Z : Type 0} (front back : List Z) (x y : Z) → (Has (front ++ x ∷ back) y → ⊥) → (Has (front ++ back) x → ⊥)
+        → Has (y ∷ (front ++ back)) x → ⊥
     none front back x y first rest (inl is) = first (subst (λ v. Has (front ++ x ∷ back) v) is (itself front back x))
     none front back x y first rest (inr has) = rest has
 
@@ -54,7 +57,8 @@ but (inl p) never = absurd (never p)
 but (inr q) never = q
 
 -- two lists of the same values, each once, are equally long
-pub same_length : {X : Type 0} (xs ys : List X) → AreDistinct xs → AreDistinct ys → ((x : X) → Has xs x → Has ys x) → ((x : X) → Has ys x → Has xs x) → length xs ≡ length ys
+pub same_length : {X : Type 0} (xs ys : List X) → AreDistinct xs → AreDistinct ys → ((x : X) → Has xs x → Has ys x)
+    → ((x : X) → Has ys x → Has xs x) → length xs ≡ length ys
 same_length [] [] one two to from = refl
 same_length [] (y ∷ ys) one two to from = absurd (from y (inl refl))
 same_length (x ∷ xs) ys one two to from =
@@ -62,6 +66,8 @@ same_length (x ∷ xs) ys one two to from =
     let rest = found.front ++ found.back in
     let distinct = distinct_others found.front found.back x (subst AreDistinct found.parts two) in
     let shorter = same_length xs rest one.1 distinct.0
-    (λ z has. but (middle found.front found.back x z (subst (λ vs. Has vs z) found.parts (to z (inr has)))) (not_it xs x z one.0 has))
-    (λ z has. but (from z (subst (λ vs. Has vs z) (sym found.parts) (other found.front found.back x z has))) (not_it rest x z distinct.1 has)) in
+    (λ z has. but (middle found.front found.back x z (subst (λ vs. Has vs z) found.parts (to z (inr has))))
+    (not_it xs x z one.0 has))
+    (λ z has. but (from z (subst (λ vs. Has vs z) (sym found.parts) (other found.front found.back x z has)))
+    (not_it rest x z distinct.1 has)) in
     ap (λ n. suc n) shorter ∙ sym (ap length found.parts ∙ length_around found.front found.back x)

@@ -1,5 +1,6 @@
 -- One item taken: its effect is that of its row, within the maximum of prefixes.
-use Rattle.std.proofs.Common.{◌≡◌, ℕ, ◌<◌, ◌≤◌, Bool, true, false, List, [], ◌∷◌, ◌++◌, length, Option, Some, None, refl, sym, ap, subst, arith}
+use Rattle.std.proofs.Common.{◌≡◌, ℕ, ◌<◌, ◌≤◌, Bool, true, false, List, [], ◌∷◌, ◌++◌, length, Option, Some, None}
+use Rattle.std.proofs.Common.{refl, sym, ap, subst, arith}
 use Rattle.std.specs.Prelude.{nat_lt, if◌then◌else◌}
 use Rattle.std.proofs.lemmas.Bool.Decides.{nat_tests}
 use Rattle.urpf_base.specs.Address.{Block}
@@ -18,7 +19,8 @@ use Rattle.control_core.specs.Effects.{HoldsSoMany, HoldsAll}
 use Rattle.control_core.specs.Table.{Applies}
 use Rattle.control_core.specs.Runs.{Limited}
 use Rattle.control_core.specs.ItemSteps.{TookRow, Changed}
-use Rattle.control_core.proofs.Held.{holds_after_nothing, holds_after_advance, holds_after_reset, holds_after_update, holds_so_many}
+use Rattle.control_core.proofs.Held.{holds_after_nothing, holds_after_advance, holds_after_reset, holds_after_update}
+use Rattle.control_core.proofs.Held.{holds_so_many}
 
 pub not_above : (maximum count : ℕ) → count ≤ maximum → nat_lt maximum count ≡ false
 not_above maximum count within = grind (arith, nat_tests)
@@ -27,27 +29,42 @@ pub is_above : (maximum count : ℕ) → maximum < count → nat_lt maximum coun
 is_above maximum count over = grind (arith, nat_tests)
 
 -- an UPDATE that leaves no more prefixes than the maximum
-pub changed_within : (old : Standing) (u : RouteUpdate) (first second : Routes) (count : ℕ) → Applies u first second → count ≡ length (prefixes_of second) → count ≤ old.config.max
+pub changed_within : (old : Standing) (u : RouteUpdate) (first second : Routes) (count : ℕ) → Applies u first second
+    → count ≡ length (prefixes_of second) → count ≤ old.config.max
     → (before : List Effect) → HoldsAll before first → Changed old u before old second None
 changed_within old u first second count applies is within before holds =
-    let many = holds_so_many (before ++ Changes u ∷ []) second (holds_after_update before u first second holds applies) in
-    let choose : Bool → Outcome = λ b. if b then ended (Fault CEASE MAXIMUM_PREFIXES_REACHED) else (old.state, Changes u) in
+    let many = holds_so_many (before ++ Changes u ∷ []) second (holds_after_update before u first second holds applies)
+    in
+    let choose : Bool → Outcome = λ b. if b then ended (Fault CEASE MAXIMUM_PREFIXES_REACHED)
+    else (old.state, Changes u) in
     record {
       outcome = (old.state, Changes u);
-      limited = (count, subst (HoldsSoMany (before ++ Changes u ∷ [])) (sym is) many, sym (ap choose (not_above old.config.max count within)));
+      limited = (
+        count,
+        subst (HoldsSoMany (before ++ Changes u ∷ [])) (sym is) many,
+        sym (ap choose (not_above old.config.max count within)),
+      );
       came = record { state = refl; holds = holds_after_update before u first second holds applies; told = refl };
     }
 
 -- an UPDATE that leaves more ends the session
-pub changed_over : (old new : Standing) (u : RouteUpdate) (first second third : Routes) (count : ℕ) (cause : ResetCause) → Applies u first second → count ≡ length (prefixes_of second) → old.config.max < count
-    → new ≡ record old { state = Idle } → cause ≡ Fault CEASE MAXIMUM_PREFIXES_REACHED → ((p : Block) → routes_at third p ≡ None)
+pub changed_over : (old new : Standing) (u : RouteUpdate) (first second third : Routes) (count : ℕ) (cause : ResetCause)
+    → Applies u first second → count ≡ length (prefixes_of second) → old.config.max < count
+    → new ≡ record old { state = Idle } → cause ≡ Fault CEASE MAXIMUM_PREFIXES_REACHED
+    → ((p : Block) → routes_at third p ≡ None)
     → (before : List Effect) → HoldsAll before first → Changed old u before new third (Some cause)
 changed_over old new u first second third count cause applies is over is_new is_cause none before holds =
-    let many = holds_so_many (before ++ Changes u ∷ []) second (holds_after_update before u first second holds applies) in
-    let choose : Bool → Outcome = λ b. if b then ended (Fault CEASE MAXIMUM_PREFIXES_REACHED) else (old.state, Changes u) in
+    let many = holds_so_many (before ++ Changes u ∷ []) second (holds_after_update before u first second holds applies)
+    in
+    let choose : Bool → Outcome = λ b. if b then ended (Fault CEASE MAXIMUM_PREFIXES_REACHED)
+    else (old.state, Changes u) in
     record {
       outcome = ended (Fault CEASE MAXIMUM_PREFIXES_REACHED);
-      limited = (count, subst (HoldsSoMany (before ++ Changes u ∷ [])) (sym is) many, sym (ap choose (is_above old.config.max count over)));
+      limited = (
+        count,
+        subst (HoldsSoMany (before ++ Changes u ∷ [])) (sym is) many,
+        sym (ap choose (is_above old.config.max count over)),
+      );
       came = record {
         state = ap (λ (s : Standing). s.state) is_new;
         holds = holds_after_reset before (Fault CEASE MAXIMUM_PREFIXES_REACHED) third none;
@@ -55,7 +72,8 @@ changed_over old new u first second third count cause applies is over is_new is_
       };
     }
 
-pub took_nothing : (old new : Standing) (item : Item) (routes : Routes) → Step old.config old.state item (new.state, Nothing)
+pub took_nothing : (old new : Standing) (item : Item) (routes : Routes)
+    → Step old.config old.state item (new.state, Nothing)
     → (before : List Effect) → HoldsAll before routes → TookRow old item before new routes None
 took_nothing old new item routes step before holds = record {
   row = (new.state, Nothing);
@@ -65,7 +83,8 @@ took_nothing old new item routes step before holds = record {
   came = record { state = refl; holds = holds_after_nothing before routes holds; told = refl };
 }
 
-pub took_advance : (old new : Standing) (item : Item) (routes : Routes) → Step old.config old.state item (new.state, Advanced)
+pub took_advance : (old new : Standing) (item : Item) (routes : Routes)
+    → Step old.config old.state item (new.state, Advanced)
     → (before : List Effect) → HoldsAll before routes → TookRow old item before new routes None
 took_advance old new item routes step before holds = record {
   row = (new.state, Advanced);
@@ -75,7 +94,8 @@ took_advance old new item routes step before holds = record {
   came = record { state = refl; holds = holds_after_advance before routes holds; told = refl };
 }
 
-pub took_reset : (old new : Standing) (item : Item) (routes : Routes) (cause : ResetCause) → Step old.config old.state item (new.state, Reset cause) → ((p : Block) → routes_at routes p ≡ None)
+pub took_reset : (old new : Standing) (item : Item) (routes : Routes) (cause : ResetCause)
+    → Step old.config old.state item (new.state, Reset cause) → ((p : Block) → routes_at routes p ≡ None)
     → (before : List Effect) → TookRow old item before new routes (Some cause)
 took_reset old new item routes cause step none before = record {
   row = (new.state, Reset cause);
@@ -86,12 +106,14 @@ took_reset old new item routes cause step none before = record {
 }
 
 -- an UPDATE took the session into the state in which it came to pass
-pub took_change : (old mid new : Standing) (item : Item) (u : RouteUpdate) (routes : Routes) (reset : Option ResetCause) → mid.config ≡ old.config → Step old.config old.state item (mid.state, Changes u)
+pub took_change : (old mid new : Standing) (item : Item) (u : RouteUpdate) (routes : Routes) (reset : Option ResetCause)
+    → mid.config ≡ old.config → Step old.config old.state item (mid.state, Changes u)
     → (before : List Effect) → Changed mid u before new routes reset → TookRow old item before new routes reset
 took_change old mid new item u routes reset same step before changed = record {
   row = (mid.state, Changes u);
   step = step;
   outcome = changed.outcome;
-  limited = subst (λ (k : SessionConfig). Limited k.max before (mid.state, Changes u) changed.outcome) same changed.limited;
+  limited =
+      subst (λ (k : SessionConfig). Limited k.max before (mid.state, Changes u) changed.outcome) same changed.limited;
   came = changed.came;
 }

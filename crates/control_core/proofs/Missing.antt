@@ -1,19 +1,20 @@
--- The prefixes of one table that another lacks, and walks that count them or copy a table.
-use Rattle.std.proofs.Common.{◌≡◌, ◌⊎◌, ℕ, ◌+◌, Bool, true, false, cond, List, [], ◌∷◌, ◌++◌, length, map, Option, Some, None, inl, inr, refl, sym, ap, subst, ◌∙◌, length-append, arith}
+-- The prefixes of one table that another lacks, and a walk that counts them.
+use Rattle.std.proofs.Common.{◌≡◌, ◌⊎◌, ℕ, ◌+◌, Bool, true, false, cond, List, [], ◌∷◌, ◌++◌, length, map, Option, Some}
+use Rattle.std.proofs.Common.{None, inl, inr, refl, sym, ap, ◌∙◌, length-append, arith}
 use Rattle.std.specs.Prelude.{IsSome, IsNone, is_none}
 use Rattle.std.specs.List.{filter}
 use Rattle.std.proofs.lemmas.List.{length-map}
 use Rattle.urpf_base.specs.Address.{Block}
 use Rattle.urpf_base.specs.Lists.{Has, AreDistinct}
-use Rattle.adj_rib.specs.Routes.{Routes, routes_at, prefixes_of, pairs_of, pairs_after, ChangesAt}
-use Rattle.urpf_base.proofs.Membership.{same_block}
-use Rattle.adj_rib.proofs.Routes.{is_distinct, has_held, has_pair, same_routes, pairs_after-none}
+use Rattle.adj_rib.specs.Routes.{Routes, routes_at, prefixes_of, pairs_of, pairs_after}
+use Rattle.adj_rib.proofs.Routes.{is_distinct, has_held, pairs_after-none}
 use Rattle.control_core.specs.Differences.{CameOrWent, IsDifference, lacks, missing}
 
 has-append : {X : Type 0} (xs ys : List X) (x : X) → Has (xs ++ ys) x → Has xs x ⊎ Has ys x
 has-append [] ys x has = inr has
 has-append (z ∷ xs) ys x (inl same) = inl (inl same)
-has-append (z ∷ xs) ys x (inr later) = elim (has-append xs ys x later) [ inl first ↦ inl (inr first) | inr second ↦ inr second ]
+has-append (z ∷ xs) ys x (inr later) =
+    elim (has-append xs ys x later) [ inl first ↦ inl (inr first) | inr second ↦ inr second ]
 
 has-left : {X : Type 0} (xs ys : List X) (x : X) → Has xs x → Has (xs ++ ys) x
 has-left [] ys x has = absurd has
@@ -24,7 +25,9 @@ has-right : {X : Type 0} (xs ys : List X) (x : X) → Has ys x → Has (xs ++ ys
 has-right [] ys x has = has
 has-right (z ∷ xs) ys x has = inr (has-right xs ys x has)
 
-kept_has : (f : Block → Bool) (q p : Block) (qs : List Block) (b : Bool) → f q ≡ b → (Has (filter f qs) p → Has qs p × (f p ≡ true)) → Has (cond b (q ∷ filter f qs) (filter f qs)) p → Has (q ∷ qs) p × (f p ≡ true)
+kept_has : (f : Block → Bool) (q p : Block) (qs : List Block) (b : Bool) → f q ≡ b
+    → (Has (filter f qs) p → Has qs p × (f p ≡ true)) → Has (cond b (q ∷ filter f qs) (filter f qs)) p
+    → Has (q ∷ qs) p × (f p ≡ true)
 kept_has f q p qs true is rest (inl same) = (inl same, ap f same ∙ is)
 kept_has f q p qs true is rest (inr later) = let found = rest later in (inr found.0, found.1)
 kept_has f q p qs false is rest has = let found = rest has in (inr found.0, found.1)
@@ -34,7 +37,8 @@ has-filter : (f : Block → Bool) (ps : List Block) (p : Block) → Has (filter 
 has-filter f [] p has = absurd has
 has-filter f (q ∷ qs) p has = kept_has f q p qs (f q) refl (has-filter f qs p) has
 
-has_kept : (f : Block → Bool) (q p : Block) (qs : List Block) (b : Bool) → f q ≡ b → (Has qs p → Has (filter f qs) p) → Has (q ∷ qs) p → f p ≡ true → Has (cond b (q ∷ filter f qs) (filter f qs)) p
+has_kept : (f : Block → Bool) (q p : Block) (qs : List Block) (b : Bool) → f q ≡ b → (Has qs p → Has (filter f qs) p)
+    → Has (q ∷ qs) p → f p ≡ true → Has (cond b (q ∷ filter f qs) (filter f qs)) p
 has_kept f q p qs true is rest (inl same) passes = inl same
 has_kept f q p qs true is rest (inr later) passes = inr (rest later)
 has_kept f q p qs false is rest (inl same) passes = let clash : true ≡ false = sym passes ∙ ap f same ∙ is in cc
@@ -45,7 +49,8 @@ filter-has : (f : Block → Bool) (ps : List Block) (p : Block) → Has ps p →
 filter-has f [] p has passes = absurd has
 filter-has f (q ∷ qs) p has passes = has_kept f q p qs (f q) refl (λ later. filter-has f qs p later passes) has passes
 
-distinct_kept : (f : Block → Bool) (q : Block) (qs : List Block) (b : Bool) → (Has qs q → ⊥) → AreDistinct (filter f qs) → AreDistinct (cond b (q ∷ filter f qs) (filter f qs))
+distinct_kept : (f : Block → Bool) (q : Block) (qs : List Block) (b : Bool) → (Has qs q → ⊥) → AreDistinct (filter f qs)
+    → AreDistinct (cond b (q ∷ filter f qs) (filter f qs))
 distinct_kept f q qs true once rest = (λ again. once (has-filter f qs q again).0, rest)
 distinct_kept f q qs false once rest = rest
 
@@ -53,7 +58,8 @@ distinct-filter : (f : Block → Bool) (ps : List Block) → AreDistinct ps → 
 distinct-filter f [] distinct = tt
 distinct-filter f (q ∷ qs) distinct = distinct_kept f q qs (f q) distinct.0 (distinct-filter f qs distinct.1)
 
-distinct-append : {X : Type 0} (xs ys : List X) → AreDistinct xs → AreDistinct ys → ((x : X) → Has xs x → Has ys x → ⊥) → AreDistinct (xs ++ ys)
+distinct-append : {X : Type 0} (xs ys : List X) → AreDistinct xs → AreDistinct ys → ((x : X) → Has xs x → Has ys x → ⊥)
+    → AreDistinct (xs ++ ys)
 distinct-append [] ys first second apart = second
 distinct-append (x ∷ xs) ys first second apart = (
   λ has. elim (has-append xs ys x has) [ inl again ↦ first.0 again | inr other ↦ apart x (inl refl) other ],
@@ -72,12 +78,14 @@ never_both : (o : Option (Option ℕ)) → IsSome o → IsNone o → ⊥
 never_both None is none = cc
 never_both (Some v) is none = cc
 
-missing_means : (table other : Routes) (p : Block) → Has (missing table other) p → IsSome (routes_at table p) × IsNone (routes_at other p)
+missing_means : (table other : Routes) (p : Block) → Has (missing table other) p
+    → IsSome (routes_at table p) × IsNone (routes_at other p)
 missing_means table other p has =
     let kept = has-filter (lacks other) (prefixes_of table) p has in
     ((has_held table p).0 kept.0, lacks_none (routes_at other p) kept.1)
 
-is_missing : (table other : Routes) (p : Block) → IsSome (routes_at table p) → IsNone (routes_at other p) → Has (missing table other) p
+is_missing : (table other : Routes) (p : Block) → IsSome (routes_at table p) → IsNone (routes_at other p)
+    → Has (missing table other) p
 is_missing table other p there gone =
     filter-has (lacks other) (prefixes_of table) p ((has_held table p).1 there) (none_lacks (routes_at other p) gone)
 
@@ -97,10 +105,14 @@ missing_apart old new p out came =
     never_both (routes_at old p) (missing_means old new p out).0 (missing_means new old p came).1
 
 -- those of the old table that the new one lacks went, and those of the new one that the old one lacks came
-pub differs_by : (old new : Routes) (went came : ℕ) → went ≡ length (missing old new) → came ≡ length (missing new old) → IsDifference old new (went + came)
+pub differs_by : (old new : Routes) (went came : ℕ) → went ≡ length (missing old new) → came ≡ length (missing new old)
+    → IsDifference old new (went + came)
 differs_by old new went came is_went is_came = record {
   changed = missing old new ++ missing new old;
-  distinct = distinct-append (missing old new) (missing new old) (distinct-filter (lacks new) (prefixes_of old) (is_distinct old)) (distinct-filter (lacks old) (prefixes_of new) (is_distinct new)) (missing_apart old new);
+  distinct =
+      distinct-append (missing old new) (missing new old)
+      (distinct-filter (lacks new) (prefixes_of old) (is_distinct old))
+      (distinct-filter (lacks old) (prefixes_of new) (is_distinct new)) (missing_apart old new);
   each = λ p. (changed_means old new p, is_changed old new p);
   counted = omega (arith, is_came, is_went, length-append (missing old new) (missing new old));
 }
@@ -117,59 +129,9 @@ keys_long table = length-map (pairs_of table) (λ (e : Block × Option ℕ). e.0
 pub all_to_come : (table other : Routes) → lacking other (pairs_after None table) ≡ missing table other
 all_to_come table other = ap (lacking other) (pairs_after-none table)
 
--- a walk that copies a table: what is still to come is not there yet, and all else is
-pub record IsCopied (table : Routes) (left : List (Block × Option ℕ)) (copy : Routes) : Type 0 where
-  pub there : (p : Block) (origin : Option ℕ) → routes_at table p ≡ Some origin → Has left (p, origin) ⊎ (routes_at copy p ≡ Some origin)
-  pub none : (p : Block) → routes_at table p ≡ None → routes_at copy p ≡ None
-  pub part : (p : Block) (origin : Option ℕ) → Has left (p, origin) → routes_at table p ≡ Some origin
-
-pub copy_begins : (table copy : Routes) → ((p : Block) → routes_at copy p ≡ None) → IsCopied table (pairs_after None table) copy
-copy_begins table copy empty = record {
-  there = λ p origin is. inl (rw (pairs_after-none table) ((has_pair table p origin).1 is));
-  none = λ p is. empty p;
-  part = λ p origin has. (has_pair table p origin).0 (rw (pairs_after-none table) at has);
-}
-
--- a pair other than the one that was set
-still_there : (r : Block × Option ℕ) (p : Block) (origin : Option ℕ) (t : List (Block × Option ℕ)) (old new : Routes) → ChangesAt r.0 (Some r.1) old new → (p ≡ r.0 → ⊥) → Has (r ∷ t) (p, origin) ⊎ (routes_at old p ≡ Some origin) → Has t (p, origin) ⊎ (routes_at new p ≡ Some origin)
-still_there r p origin t old new change other (inl (inl same)) = absurd (other (ap (λ x. x.0) same))
-still_there r p origin t old new change other (inl (inr later)) = inl later
-still_there r p origin t old new change other (inr is) = inr (change.others p other ∙ is)
-
-copied_pair : (table : Routes) (r : Block × Option ℕ) (t : List (Block × Option ℕ)) (old new : Routes) → IsCopied table (r ∷ t) old → ChangesAt r.0 (Some r.1) old new → (p : Block) (origin : Option ℕ) → routes_at table p ≡ Some origin → Has t (p, origin) ⊎ (routes_at new p ≡ Some origin)
-copied_pair table r t old new copy change p origin is =
-    elim (same_block p r.0) [
-      | inl same ↦ inr (ap (routes_at new) same ∙ change.here ∙ sym (copy.part r.0 r.1 (inl refl)) ∙ ap (routes_at table) (sym same) ∙ is)
-      | inr other ↦ still_there r p origin t old new change other (copy.there p origin is)
-    ]
-
-copied_none : (table : Routes) (r : Block × Option ℕ) (t : List (Block × Option ℕ)) (old new : Routes) → IsCopied table (r ∷ t) old → ChangesAt r.0 (Some r.1) old new → (p : Block) → routes_at table p ≡ None → routes_at new p ≡ None
-copied_none table r t old new copy change p none =
-    elim (same_block p r.0) [
-      | inl same ↦ let there = copy.part r.0 r.1 (inl refl) in let gone = ap (routes_at table) (sym same) ∙ none in cc
-      | inr other ↦ change.others p other ∙ copy.none p none
-    ]
-
-pub copy_goes_on : (table : Routes) (r : Block × Option ℕ) (left t : List (Block × Option ℕ)) (old new : Routes) → left ≡ r ∷ t → IsCopied table left old → ChangesAt r.0 (Some r.1) old new → IsCopied table t new
-copy_goes_on table r left t old new is before change =
-    let copy : IsCopied table (r ∷ t) old = subst (λ (l : List (Block × Option ℕ)). IsCopied table l old) is before in
-    record {
-      there = copied_pair table r t old new copy change;
-      none = copied_none table r t old new copy change;
-      part = λ p origin has. copy.part p origin (inr has);
-    }
-
-copied_at : (table copy : Routes) (p : Block) (o : Option (Option ℕ)) → IsCopied table [] copy → routes_at table p ≡ o → routes_at copy p ≡ routes_at table p
-copied_at table copy p None whole is = whole.none p is ∙ sym is
-copied_at table copy p (Some origin) whole is =
-    elim (whole.there p origin is) [ inl never ↦ absurd never | inr there ↦ there ∙ sym is ]
-
-pub copy_ends : (table copy : Routes) (left : List (Block × Option ℕ)) → left ≡ [] → IsCopied table left copy → copy ≡ table
-copy_ends table copy left end before =
-    let whole : IsCopied table [] copy = subst (λ (l : List (Block × Option ℕ)). IsCopied table l copy) end before in
-    same_routes copy table (λ p. copied_at table copy p (routes_at table p) whole refl)
-
 -- what is to come after the first pair
-pub lacking-first : (other : Routes) (left : List (Block × Option ℕ)) (r : Block × Option ℕ) (t : List (Block × Option ℕ)) (b : Bool) → left ≡ r ∷ t → lacks other r.0 ≡ b → length (lacking other left) ≡ cond b (length (lacking other t) + 1) (length (lacking other t))
+pub lacking-first : (other : Routes) (left : List (Block × Option ℕ)) (r : Block × Option ℕ)
+    (t : List (Block × Option ℕ)) (b : Bool) → left ≡ r ∷ t → lacks other r.0 ≡ b
+    → length (lacking other left) ≡ cond b (length (lacking other t) + 1) (length (lacking other t))
 lacking-first other left r t true is lack = rw (is, lack) (omega arith)
 lacking-first other left r t false is lack = rw (is, lack) refl

@@ -1,5 +1,7 @@
 -- A pull as it goes on: the items that it took so far, and what it wrote.
-use Rattle.std.proofs.Common.{◌≡◌, ℕ, ◌+◌, ◌-◌, ◌<◌, ◌≤◌, Bool, true, false, List, [], ◌∷◌, ◌++◌, length, take, drop, Option, Some, None, Result, Ok, Err, refl, sym, ap, subst, ◌∙◌, append_assoc, arith, inl, inr, length-append, add-zero}
+use Rattle.std.proofs.Common.{◌≡◌, ℕ, ◌+◌, ◌-◌, ◌<◌, ◌≤◌, Bool, true, false, List, [], ◌∷◌, ◌++◌, length, take, drop}
+use Rattle.std.proofs.Common.{Option, Some, None, Result, Ok, Err, refl, sym, ap, subst, ◌∙◌, append_assoc, arith, inl}
+use Rattle.std.proofs.Common.{inr, length-append, add-zero}
 use Rattle.std.specs.Prelude.{OnOk, OnErr, IfErr, not, ◌&&◌, nat_lt}
 use Rattle.std.proofs.lemmas.Bool.Decides.{nat_tests}
 use Rattle.control_core.specs.declared.limits.Limits.{Limits}
@@ -9,7 +11,8 @@ use Rattle.feed_io.specs.Events.{Event}
 use Rattle.session_fsm.specs.declared.items.Effect.{Effect}
 use Rattle.report_text.specs.Lines.{end_line}
 use Rattle.control_core.specs.declared.limits.RunFault.{RunFault}
-use Rattle.control_core.specs.declared.limits.RunFault.TheVariants.{ReadFault, WriteFault, ItemLimit, OctetLimit, OutOfMemory}
+use Rattle.control_core.specs.declared.limits.RunFault.TheVariants.{ReadFault, WriteFault, ItemLimit, OctetLimit}
+use Rattle.control_core.specs.declared.limits.RunFault.TheVariants.{OutOfMemory}
 use Rattle.control_core.specs.States.{PeerState}
 use Rattle.control_core.specs.declared.peering.Turn.{Turn}
 use Rattle.control_core.specs.declared.peering.Turn.TheVariants.{Took, End}
@@ -19,7 +22,8 @@ use Rattle.bgp_wire.specs.Frames.{IsShort}
 use Rattle.control_core.specs.ItemSteps.{reset_of}
 use Rattle.control_core.specs.Turns.{Counts, HadMemory, IsTurnFault, Turned}
 use Rattle.control_core.specs.FeedCalls.{Gave, IsEmptied}
-use Rattle.control_core.specs.Pulls.{asks_more, EndsBy, StaysWithin, TakesAtMost, reset_text, reset_lines, IsEndText, IsPullText, Wrote, met_end, Pull, Pulled, Stopped}
+use Rattle.control_core.specs.Pulls.{asks_more, EndsBy, StaysWithin, TakesAtMost, reset_text, reset_lines, IsEndText}
+use Rattle.control_core.specs.Pulls.{IsPullText, Wrote, met_end, Pull, Pulled, Stopped}
 use Rattle.urpf_base.specs.declared.sessions.ResetCause.{ResetCause}
 use Rattle.urpf_base.proofs.Growth.{Appends-append}
 use Rattle.control_core.proofs.ItemLaws.{spread-append}
@@ -31,30 +35,41 @@ appends_none None = tt
 appends_none (Some octets) = sym (append-nil octets)
 
 -- what a feed gave in two calls
-pub gave_more : (old mid new : Option (List Event)) (first second : List Event) → Gave old first mid → Gave mid second new → Gave old (first ++ second) new
+pub gave_more : (old mid new : Option (List Event)) (first second : List Event) → Gave old first mid
+    → Gave mid second new → Gave old (first ++ second) new
 gave_more None mid new first second gave more = tt
 gave_more (Some old) None new first second gave more = absurd gave
 gave_more (Some old) (Some mid) None first second gave more = absurd more
 gave_more (Some old) (Some mid) (Some new) first second gave more =
-    gave ∙ spread-append first mid ∙ ap (λ (es : List Event). spread first ++ es) more ∙ sym (spread-append first (second ++ new)) ∙ ap spread (sym (append_assoc first second new))
+    gave ∙ spread-append first mid ∙ ap (λ (es : List Event). spread first ++ es) more
+    ∙ sym (spread-append first (second ++ new)) ∙ ap spread (sym (append_assoc first second new))
 
 -- the lines of resets, and of one more item
-pub reset_lines-push : (session number : ℕ) (effects : List Effect) (effect : Effect) → reset_lines session number (effects ++ effect ∷ []) ≡ reset_lines session number effects ++ reset_text session (number + length effects + 1) (reset_of effect)
+pub reset_lines-push : (session number : ℕ) (effects : List Effect) (effect : Effect)
+    → reset_lines session number (effects ++ effect ∷ []) ≡ reset_lines session number effects
+    ++ reset_text session (number + length effects + 1) (reset_of effect)
 reset_lines-push session number [] effect =
-    append-nil (reset_text session (number + 1) (reset_of effect)) ∙ ap (λ (n : ℕ). reset_text session (n + 1) (reset_of effect)) (sym (add-zero number))
+    append-nil (reset_text session (number + 1) (reset_of effect))
+    ∙ ap (λ (n : ℕ). reset_text session (n + 1) (reset_of effect)) (sym (add-zero number))
 reset_lines-push session number (first ∷ effects) effect =
     let same : number + 1 + length effects + 1 ≡ number + length (first ∷ effects) + 1 = omega arith in
-    ap (λ (t : List ℕ). reset_text session (number + 1) (reset_of first) ++ t) (reset_lines-push session (number + 1) effects effect)
-    ∙ sym (append_assoc (reset_text session (number + 1) (reset_of first)) (reset_lines session (number + 1) effects) (reset_text session (number + 1 + length effects + 1) (reset_of effect)))
+    ap (λ (t : List ℕ). reset_text session (number + 1) (reset_of first) ++ t)
+    (reset_lines-push session (number + 1) effects effect)
+    ∙ sym (append_assoc (reset_text session (number + 1) (reset_of first)) (reset_lines session (number + 1) effects)
+    (reset_text session (number + 1 + length effects + 1) (reset_of effect)))
     ∙ ap (λ (n : ℕ). reset_lines session number (first ∷ effects) ++ reset_text session n (reset_of effect)) same
 
 -- the lines of resets, and of those behind them
-pub reset_lines-append : (session number : ℕ) (effects later : List Effect) → reset_lines session number (effects ++ later) ≡ reset_lines session number effects ++ reset_lines session (number + length effects) later
+pub reset_lines-append : (session number : ℕ) (effects later : List Effect)
+    → reset_lines session number (effects ++ later) ≡ reset_lines session number effects
+    ++ reset_lines session (number + length effects) later
 reset_lines-append session number [] later = ap (λ (n : ℕ). reset_lines session n later) (sym (add-zero number))
 reset_lines-append session number (first ∷ effects) later =
     let same : number + 1 + length effects ≡ number + length (first ∷ effects) = omega arith in
-    ap (λ (t : List ℕ). reset_text session (number + 1) (reset_of first) ++ t) (reset_lines-append session (number + 1) effects later)
-    ∙ sym (append_assoc (reset_text session (number + 1) (reset_of first)) (reset_lines session (number + 1) effects) (reset_lines session (number + 1 + length effects) later))
+    ap (λ (t : List ℕ). reset_text session (number + 1) (reset_of first) ++ t)
+    (reset_lines-append session (number + 1) effects later)
+    ∙ sym (append_assoc (reset_text session (number + 1) (reset_of first)) (reset_lines session (number + 1) effects)
+    (reset_lines session (number + 1 + length effects) later))
     ∙ ap (λ (n : ℕ). reset_lines session number (first ∷ effects) ++ reset_lines session n later) same
 
 -- how far a pull has come, from where it began
@@ -65,30 +80,43 @@ pub record SoFar (session : ℕ) (events : List Event) (effects : List Effect) (
   pub stands : StandsFor (events ++ gave) (effects ++ more) now
   pub wrote : Appends old_held held (reset_lines session (length effects) more)
 
-pub so_far_begins : (session : ℕ) (events : List Event) (effects : List Effect) (left : Option (List Event)) (held : Option (List ℕ)) (now : PeerState) → StandsFor events effects now → SoFar session events effects left left held held now
+pub so_far_begins : (session : ℕ) (events : List Event) (effects : List Effect) (left : Option (List Event))
+    (held : Option (List ℕ)) (now : PeerState) → StandsFor events effects now
+    → SoFar session events effects left left held held now
 so_far_begins session events effects left held now stands = record {
   gave = [];
   more = [];
   told = gave_none left;
-  stands = subst (λ (es : List Effect). StandsFor (events ++ []) es now) (sym (append-nil effects)) (no_event events effects now stands);
+  stands =
+      subst (λ (es : List Effect). StandsFor (events ++ []) es now) (sym (append-nil effects))
+      (no_event events effects now stands);
   wrote = appends_none held;
 }
 
 -- a session that stands for events and effects that came in three parts
-in_parts : (events first second : List Event) (effects some others : List Effect) (now : PeerState) → StandsFor ((events ++ first) ++ second) ((effects ++ some) ++ others) now → StandsFor (events ++ (first ++ second)) (effects ++ (some ++ others)) now
+in_parts : (events first second : List Event) (effects some others : List Effect) (now : PeerState)
+    → StandsFor ((events ++ first) ++ second) ((effects ++ some) ++ others) now
+    → StandsFor (events ++ (first ++ second)) (effects ++ (some ++ others)) now
 in_parts events first second effects some others now stands =
     subst (λ (es : List Event). StandsFor es (effects ++ (some ++ others)) now) (append_assoc events first second)
-    (subst (λ (es : List Effect). StandsFor ((events ++ first) ++ second) es now) (append_assoc effects some others) stands)
+    (subst (λ (es : List Effect). StandsFor ((events ++ first) ++ second) es now) (append_assoc effects some others)
+    stands)
 
 -- a turn that took no item goes on
-pub so_far_none : (session : ℕ) (events : List Event) (effects : List Effect) (old_left mid_left new_left : Option (List Event)) (old_held held : Option (List ℕ)) (mid new : PeerState) (result : Result Turn RunFault)
-    → (far : SoFar session events effects old_left mid_left old_held held mid) → (turned : Turned (events ++ far.gave) (effects ++ far.more) mid_left new_left result new) → turned.more ≡ []
+pub so_far_none : (session : ℕ) (events : List Event) (effects : List Effect)
+    (old_left mid_left new_left : Option (List Event)) (old_held held : Option (List ℕ)) (mid new : PeerState)
+    (result : Result Turn RunFault)
+    → (far : SoFar session events effects old_left mid_left old_held held mid)
+    → (turned : Turned (events ++ far.gave) (effects ++ far.more) mid_left new_left result new) → turned.more ≡ []
     → SoFar session events effects old_left new_left old_held held new
 so_far_none session events effects old_left mid_left new_left old_held held mid new result far turned none = record {
   gave = far.gave ++ turned.gave;
   more = far.more;
   told = gave_more old_left mid_left new_left far.gave turned.gave far.told turned.told;
-  stands = subst (λ (es : List Effect). StandsFor (events ++ (far.gave ++ turned.gave)) (effects ++ es) new) (ap (λ (es : List Effect). far.more ++ es) none ∙ append-nil far.more) (in_parts events far.gave turned.gave effects far.more turned.more new turned.stands);
+  stands =
+      subst (λ (es : List Effect). StandsFor (events ++ (far.gave ++ turned.gave)) (effects ++ es) new)
+      (ap (λ (es : List Effect). far.more ++ es) none ∙ append-nil far.more)
+      (in_parts events far.gave turned.gave effects far.more turned.more new turned.stands);
   wrote = far.wrote;
 }
 
@@ -100,17 +128,29 @@ pub record OneMore (session : ℕ) (events : List Event) (effects : List Effect)
   pub told : Gave old_left gave new_left
   pub stands : StandsFor (events ++ gave) (effects ++ (more ++ effect ∷ [])) new
   pub wrote : Appends old_held mid_held (reset_lines session (length effects) more)
-  pub text : reset_text session new.session.items reset ≡ reset_text session (length effects + length more + 1) (reset_of effect)
+  pub text : reset_text session new.session.items reset
+      ≡ reset_text session (length effects + length more + 1) (reset_of effect)
 
-pub one_more_item : (session : ℕ) (events : List Event) (effects : List Effect) (old_left mid_left new_left : Option (List Event)) (old_held held : Option (List ℕ)) (mid new : PeerState) (reset : Option ResetCause)
-    → (far : SoFar session events effects old_left mid_left old_held held mid) → Turned (events ++ far.gave) (effects ++ far.more) mid_left new_left (Ok (Took reset)) new
+pub one_more_item : (session : ℕ) (events : List Event) (effects : List Effect)
+    (old_left mid_left new_left : Option (List Event)) (old_held held : Option (List ℕ)) (mid new : PeerState)
+    (reset : Option ResetCause)
+    → (far : SoFar session events effects old_left mid_left old_held held mid)
+    → Turned (events ++ far.gave) (effects ++ far.more) mid_left new_left (Ok (Took reset)) new
     → OneMore session events effects old_left new_left old_held held reset new
 one_more_item session events effects old_left mid_left new_left old_held held mid new reset far turned =
     let effect = turned.shows.0 in
     let all : StandsFor (events ++ (far.gave ++ turned.gave)) (effects ++ (far.more ++ effect ∷ [])) new =
-    subst (λ (es : List Effect). StandsFor (events ++ (far.gave ++ turned.gave)) (effects ++ (far.more ++ es)) new) turned.shows.1 (in_parts events far.gave turned.gave effects far.more turned.more new turned.stands) in
+    subst (λ (es : List Effect). StandsFor (events ++ (far.gave ++ turned.gave)) (effects ++ (far.more ++ es)) new)
+    turned.shows.1 (in_parts events far.gave turned.gave effects far.more turned.more new turned.stands) in
     let count : new.session.items ≡ length effects + length far.more + 1 =
-    let counted = all.counted in omega (arith, counted, length-append effects (far.more ++ effect ∷ []), length-append far.more (effect ∷ [])) in
+    let counted =
+    all.counted in
+    omega (
+      arith,
+      counted,
+      length-append effects (far.more ++ effect ∷ []),
+      length-append far.more (effect ∷ []),
+    ) in
     record {
       gave = far.gave ++ turned.gave;
       more = far.more;
@@ -118,11 +158,14 @@ one_more_item session events effects old_left mid_left new_left old_held held mi
       told = gave_more old_left mid_left new_left far.gave turned.gave far.told turned.told;
       stands = all;
       wrote = far.wrote;
-      text = ap (λ (n : ℕ). reset_text session n reset) count ∙ ap (reset_text session (length effects + length far.more + 1)) turned.shows.2;
+      text = ap (λ (n : ℕ). reset_text session n reset) count
+          ∙ ap (reset_text session (length effects + length far.more + 1)) turned.shows.2;
     }
 
-pub so_far_item : (session : ℕ) (events : List Event) (effects : List Effect) (old_left new_left : Option (List Event)) (old_held mid_held new_held : Option (List ℕ)) (new : PeerState) (reset : Option ResetCause)
-    → OneMore session events effects old_left new_left old_held mid_held reset new → Appends mid_held new_held (reset_text session new.session.items reset)
+pub so_far_item : (session : ℕ) (events : List Event) (effects : List Effect) (old_left new_left : Option (List Event))
+    (old_held mid_held new_held : Option (List ℕ)) (new : PeerState) (reset : Option ResetCause)
+    → OneMore session events effects old_left new_left old_held mid_held reset new
+    → Appends mid_held new_held (reset_text session new.session.items reset)
     → SoFar session events effects old_left new_left old_held new_held new
 so_far_item session events effects old_left new_left old_held mid_held new_held new reset one appended = record {
   gave = one.gave;
@@ -130,8 +173,11 @@ so_far_item session events effects old_left new_left old_held mid_held new_held 
   told = one.told;
   stands = one.stands;
   wrote =
-      subst (Appends old_held new_held) (ap (λ (t : List ℕ). reset_lines session (length effects) one.more ++ t) one.text ∙ sym (reset_lines-push session (length effects) one.more one.effect))
-      (Appends-append old_held mid_held new_held (reset_lines session (length effects) one.more) (reset_text session new.session.items reset) one.wrote appended);
+      subst (Appends old_held new_held)
+      (ap (λ (t : List ℕ). reset_lines session (length effects) one.more ++ t) one.text
+      ∙ sym (reset_lines-push session (length effects) one.more one.effect))
+      (Appends-append old_held mid_held new_held (reset_lines session (length effects) one.more)
+      (reset_text session new.session.items reset) one.wrote appended);
 }
 
 never : (b : Bool) → (b && false) ≡ false
@@ -145,7 +191,8 @@ not_met old new is = ap (λ (b : Bool). not old.ended && b) is ∙ never (not ol
 is_met : (old new : PeerState) → old.ended ≡ false → new.ended ≡ true → met_end old new ≡ true
 is_met old new is now = ap (λ (b : Bool). not b && new.ended) is ∙ now
 
-no_end : (session : ℕ) (events : List Event) (before more : List Effect) (met : Bool) → met ≡ false → IsPullText session events before more met (reset_lines session (length before) more)
+no_end : (session : ℕ) (events : List Event) (before more : List Effect) (met : Bool) → met ≡ false
+    → IsPullText session events before more met (reset_lines session (length before) more)
 no_end session events before more met is = record {
   end = [];
   is_end = subst (λ (b : Bool). IsEndText session b events (length before + length more) []) (sym is) refl;
@@ -161,7 +208,8 @@ IsWritten (Err (ItemLimit session)) = Unit {0}
 IsWritten (Err (OctetLimit session)) = Unit {0}
 IsWritten (Err OutOfMemory) = ⊥
 
-wrote_all : (result : Result (Unit {0}) RunFault) (IsText : List ℕ → Type 0) (old new : Option (List ℕ)) (text : List ℕ) → IsWritten result → IsText text → Appends old new text → Wrote result IsText old new
+wrote_all : (result : Result (Unit {0}) RunFault) (IsText : List ℕ → Type 0) (old new : Option (List ℕ)) (text : List ℕ)
+    → IsWritten result → IsText text → Appends old new text → Wrote result IsText old new
 wrote_all (Ok done) IsText old new text written is appended = (text, is, appended)
 wrote_all (Err (ReadFault session)) IsText old new text written is appended = (text, is, appended)
 wrote_all (Err WriteFault) IsText old new text written is appended = absurd written
@@ -170,7 +218,8 @@ wrote_all (Err (OctetLimit session)) IsText old new text written is appended = (
 wrote_all (Err OutOfMemory) IsText old new text written is appended = absurd written
 
 -- a pull that ends here, before the end of the feed
-pub pulled_so_far : (events : List Event) (effects : List Effect) (old_left new_left : Option (List Event)) (old_held new_held : Option (List ℕ)) (result : Result (Unit {0}) RunFault) (old new : PeerState)
+pub pulled_so_far : (events : List Event) (effects : List Effect) (old_left new_left : Option (List Event))
+    (old_held new_held : Option (List ℕ)) (result : Result (Unit {0}) RunFault) (old new : PeerState)
     → SoFar old.number events effects old_left new_left old_held new_held new → new.ended ≡ false → IsWritten result
     → Pulled events effects old_left new_left old_held new_held result old new
 pulled_so_far events effects old_left new_left old_held new_held result old new far unmet written = record {
@@ -179,17 +228,24 @@ pulled_so_far events effects old_left new_left old_held new_held result old new 
   told = far.told;
   stands = far.stands;
   emptied = λ met. let clash : true ≡ false = sym met ∙ not_met old new unmet in cc;
-  wrote = wrote_all result (IsPullText old.number (events ++ far.gave) effects far.more (met_end old new)) old_held new_held (reset_lines old.number (length effects) far.more) written (no_end old.number (events ++ far.gave) effects far.more (met_end old new) (not_met old new unmet)) far.wrote;
+  wrote = wrote_all result (IsPullText old.number (events ++ far.gave) effects far.more (met_end old new)) old_held
+      new_held (reset_lines old.number (length effects) far.more) written
+      (no_end old.number (events ++ far.gave) effects far.more (met_end old new) (not_met old new unmet)) far.wrote;
 }
 
-cut_at_reset : (events : List Event) (effects : List Effect) (old_left new_left : Option (List Event)) (old_held mid_held new_held : Option (List ℕ)) (old new : PeerState) (reset : Option ResetCause) (n : ℕ)
-    → OneMore old.number events effects old_left new_left old_held mid_held reset new → new.ended ≡ false → Appends mid_held new_held (take n (reset_text old.number new.session.items reset))
+cut_at_reset : (events : List Event) (effects : List Effect) (old_left new_left : Option (List Event))
+    (old_held mid_held new_held : Option (List ℕ)) (old new : PeerState) (reset : Option ResetCause) (n : ℕ)
+    → OneMore old.number events effects old_left new_left old_held mid_held reset new → new.ended ≡ false
+    → Appends mid_held new_held (take n (reset_text old.number new.session.items reset))
     → Pulled events effects old_left new_left old_held new_held (Err WriteFault) old new
 cut_at_reset events effects old_left new_left old_held mid_held new_held old new reset n one unmet appended =
     let line = reset_text old.number new.session.items reset in
     let lines = reset_lines old.number (length effects) one.more in
-    let whole : (lines ++ take n line) ++ drop n line ≡ reset_lines old.number (length effects) (one.more ++ one.effect ∷ []) =
-    append_assoc lines (take n line) (drop n line) ∙ ap (λ (t : List ℕ). lines ++ t) (take-append-drop n line ∙ one.text) ∙ sym (reset_lines-push old.number (length effects) one.more one.effect) in
+    let whole : (lines ++ take n line) ++ drop n line
+    ≡ reset_lines old.number (length effects) (one.more ++ one.effect ∷ []) =
+    append_assoc lines (take n line) (drop n line)
+    ∙ ap (λ (t : List ℕ). lines ++ t) (take-append-drop n line ∙ one.text)
+    ∙ sym (reset_lines-push old.number (length effects) one.more one.effect) in
     let met = not_met old new unmet in
     record {
       gave = one.gave;
@@ -200,20 +256,26 @@ cut_at_reset events effects old_left new_left old_held mid_held new_held old new
       wrote = (
         lines ++ take n line,
         drop n line,
-        subst (IsPullText old.number (events ++ one.gave) effects (one.more ++ one.effect ∷ []) (met_end old new)) (sym whole) (no_end old.number (events ++ one.gave) effects (one.more ++ one.effect ∷ []) (met_end old new) met),
+        subst (IsPullText old.number (events ++ one.gave) effects (one.more ++ one.effect ∷ []) (met_end old new))
+            (sym whole)
+            (no_end old.number (events ++ one.gave) effects (one.more ++ one.effect ∷ []) (met_end old new) met),
         Appends-append old_held mid_held new_held lines (take n line) one.wrote appended,
       );
     }
 
 -- a pull whose line of a reset could not be written whole
-pub pulled_cut : (events : List Event) (effects : List Effect) (old_left new_left : Option (List Event)) (old_held mid_held new_held : Option (List ℕ)) (fault : RunFault) (old new : PeerState) (reset : Option ResetCause) (n : ℕ) → fault ≡ WriteFault
-    → OneMore old.number events effects old_left new_left old_held mid_held reset new → new.ended ≡ false → Appends mid_held new_held (take n (reset_text old.number new.session.items reset))
+pub pulled_cut : (events : List Event) (effects : List Effect) (old_left new_left : Option (List Event))
+    (old_held mid_held new_held : Option (List ℕ)) (fault : RunFault) (old new : PeerState) (reset : Option ResetCause)
+    (n : ℕ) → fault ≡ WriteFault
+    → OneMore old.number events effects old_left new_left old_held mid_held reset new → new.ended ≡ false
+    → Appends mid_held new_held (take n (reset_text old.number new.session.items reset))
     → Pulled events effects old_left new_left old_held new_held (Err fault) old new
 pulled_cut events effects old_left new_left old_held mid_held new_held fault old new reset n is one unmet appended =
     subst (λ (f : RunFault). Pulled events effects old_left new_left old_held new_held (Err f) old new) (sym is)
     (cut_at_reset events effects old_left new_left old_held mid_held new_held old new reset n one unmet appended)
 
-emptied_through : (old mid new : Option (List Event)) (gave : List Event) → Gave old gave mid → IsEmptied mid new → IsEmptied old new
+emptied_through : (old mid new : Option (List Event)) (gave : List Event) → Gave old gave mid → IsEmptied mid new
+    → IsEmptied old new
 emptied_through None mid new gave told is = tt
 emptied_through (Some events) None new gave told is = absurd told
 emptied_through (Some events) (Some others) new gave told is = is
@@ -223,37 +285,58 @@ abbrev pub TookEnd : Result (Unit {0}) RunFault → Option (List ℕ) → Option
 TookEnd (Ok done) old new line = Appends old new line
 TookEnd (Err fault) old new line = (fault ≡ WriteFault) × ((n : ℕ) × (n ≤ length line) × Appends old new (take n line))
 
-wrote_end : (result : Result (Unit {0}) RunFault) (IsText : List ℕ → Type 0) (old mid new : Option (List ℕ)) (lines line : List ℕ) → IsText (lines ++ line) → Appends old mid lines → TookEnd result mid new line → Wrote result IsText old new
-wrote_end (Ok done) IsText old mid new lines line is first took = (lines ++ line, is, Appends-append old mid new lines line first took)
+wrote_end : (result : Result (Unit {0}) RunFault) (IsText : List ℕ → Type 0) (old mid new : Option (List ℕ))
+    (lines line : List ℕ) → IsText (lines ++ line) → Appends old mid lines → TookEnd result mid new line
+    → Wrote result IsText old new
+wrote_end (Ok done) IsText old mid new lines line is first took =
+    (lines ++ line, is, Appends-append old mid new lines line first took)
 wrote_end (Err fault) IsText old mid new lines line is first took =
     let n = took.1.0 in
     subst (λ (f : RunFault). Wrote (Err f) IsText old new) (sym took.0) (
       lines ++ take n line,
       drop n line,
-      subst IsText (sym (append_assoc lines (take n line) (drop n line) ∙ ap (λ (t : List ℕ). lines ++ t) (take-append-drop n line))) is,
+      subst IsText
+          (sym (append_assoc lines (take n line) (drop n line)
+          ∙ ap (λ (t : List ℕ). lines ++ t) (take-append-drop n line))) is,
       Appends-append old mid new lines (take n line) first took.1.2,
     )
 
 -- a pull that met the end of the feed
-pub pulled_end : (events : List Event) (effects : List Effect) (old_left mid_left new_left : Option (List Event)) (old_held mid_held new_held : Option (List ℕ)) (result : Result (Unit {0}) RunFault) (old mid new : PeerState) (rest : ℕ)
-    → (far : SoFar old.number events effects old_left mid_left old_held mid_held mid) → Turned (events ++ far.gave) (effects ++ far.more) mid_left new_left (Ok (End rest)) new
-    → old.ended ≡ false → new.ended ≡ true → IsShort new.held → TookEnd result mid_held new_held (end_line old.number new.session.items rest)
+pub pulled_end : (events : List Event) (effects : List Effect) (old_left mid_left new_left : Option (List Event))
+    (old_held mid_held new_held : Option (List ℕ)) (result : Result (Unit {0}) RunFault) (old mid new : PeerState)
+    (rest : ℕ)
+    → (far : SoFar old.number events effects old_left mid_left old_held mid_held mid)
+    → Turned (events ++ far.gave) (effects ++ far.more) mid_left new_left (Ok (End rest)) new
+    → old.ended ≡ false → new.ended ≡ true → IsShort new.held
+    → TookEnd result mid_held new_held (end_line old.number new.session.items rest)
     → Pulled events effects old_left new_left old_held new_held result old new
-pulled_end events effects old_left mid_left new_left old_held mid_held new_held result old mid new rest far turned unmet ended short took =
-    let all : StandsFor (events ++ (far.gave ++ turned.gave)) (effects ++ far.more) new = subst (λ (es : List Effect). StandsFor (events ++ (far.gave ++ turned.gave)) (effects ++ es) new) (ap (λ (es : List Effect). far.more ++ es) turned.shows.0 ∙ append-nil far.more) (in_parts events far.gave turned.gave effects far.more turned.more new turned.stands) in
+pulled_end events effects old_left mid_left new_left old_held mid_held new_held result old mid new rest far turned unmet
+    ended short took =
+    let all : StandsFor (events ++ (far.gave ++ turned.gave)) (effects ++ far.more) new = subst
+    (λ (es : List Effect). StandsFor (events ++ (far.gave ++ turned.gave)) (effects ++ es) new)
+    (ap (λ (es : List Effect). far.more ++ es) turned.shows.0 ∙ append-nil far.more)
+    (in_parts events far.gave turned.gave effects far.more turned.more new turned.stands) in
     let met = is_met old new unmet ended in
-    let count : new.session.items ≡ length effects + length far.more = let counted = all.counted in omega (arith, counted, length-append effects far.more) in
-    let left : IsRest (events ++ (far.gave ++ turned.gave)) rest = subst (λ (es : List Event). IsRest es rest) (append_assoc events far.gave turned.gave) turned.shows.1 in
+    let count : new.session.items ≡ length effects + length far.more = let counted = all.counted in
+    omega (arith, counted, length-append effects far.more) in
+    let left : IsRest (events ++ (far.gave ++ turned.gave)) rest = subst (λ (es : List Event). IsRest es rest)
+    (append_assoc events far.gave turned.gave) turned.shows.1 in
     record {
       gave = far.gave ++ turned.gave;
       more = far.more;
       told = gave_more old_left mid_left new_left far.gave turned.gave far.told turned.told;
       stands = all;
       emptied = λ is. (emptied_through old_left mid_left new_left far.gave far.told turned.shows.2, short);
-      wrote = wrote_end result (IsPullText old.number (events ++ (far.gave ++ turned.gave)) effects far.more (met_end old new)) old_held mid_held new_held (reset_lines old.number (length effects) far.more) (end_line old.number new.session.items rest)
+      wrote = wrote_end result
+          (IsPullText old.number (events ++ (far.gave ++ turned.gave)) effects far.more (met_end old new)) old_held
+          mid_held new_held (reset_lines old.number (length effects) far.more)
+          (end_line old.number new.session.items rest)
           (record {
             end = end_line old.number new.session.items rest;
-            is_end = subst (λ (b : Bool). IsEndText old.number b (events ++ (far.gave ++ turned.gave)) (length effects + length far.more) (end_line old.number new.session.items rest)) (sym met) (rest, left, ap (λ (n : ℕ). end_line old.number n rest) count);
+            is_end =
+                subst (λ (b : Bool). IsEndText old.number b (events ++ (far.gave ++ turned.gave))
+                (length effects + length far.more) (end_line old.number new.session.items rest)) (sym met)
+                (rest, left, ap (λ (n : ℕ). end_line old.number n rest) count);
             parts = refl;
           })
           far.wrote took;
@@ -264,7 +347,8 @@ pub takes_none : (count : Option ℕ) (now : PeerState) → TakesAtMost count no
 takes_none None now = omega arith
 takes_none (Some count) now = (omega arith, omega arith)
 
-pub takes_same : (count : Option ℕ) (old mid new : PeerState) → TakesAtMost count old mid → new.session.items ≡ mid.session.items → TakesAtMost count old new
+pub takes_same : (count : Option ℕ) (old mid new : PeerState) → TakesAtMost count old mid
+    → new.session.items ≡ mid.session.items → TakesAtMost count old new
 takes_same None old mid new within same = omega arith
 takes_same (Some count) old mid new within same = (omega (arith, within.0), omega (arith, within.1))
 
@@ -272,50 +356,70 @@ below : (taken count : ℕ) → nat_lt taken count ≡ true → taken < count
 below taken count is = grind (arith, nat_tests)
 
 -- one more item, where more are asked for
-pub takes_more : (count : Option ℕ) (old mid new : PeerState) → TakesAtMost count old mid → asks_more count (mid.session.items - old.session.items) ≡ true → new.session.items ≡ mid.session.items + 1 → TakesAtMost count old new
+pub takes_more : (count : Option ℕ) (old mid new : PeerState) → TakesAtMost count old mid
+    → asks_more count (mid.session.items - old.session.items) ≡ true → new.session.items ≡ mid.session.items + 1
+    → TakesAtMost count old new
 takes_more None old mid new within asks one = omega arith
 takes_more (Some count) old mid new within asks one =
     let less = below (mid.session.items - old.session.items) count asks in
     (omega (arith, within.0), omega (arith, within.0, within.1, less))
 
 -- what a turn that failed took
-pub takes_until : (count : Option ℕ) (fault : RunFault) (old mid new : PeerState) (limits : Limits) → TakesAtMost count old mid → asks_more count (mid.session.items - old.session.items) ≡ true → Counts (Err fault) mid new limits → TakesAtMost count old new
-takes_until count (ReadFault session) old mid new limits within asks counts = takes_same count old mid new within counts.0
+pub takes_until : (count : Option ℕ) (fault : RunFault) (old mid new : PeerState) (limits : Limits)
+    → TakesAtMost count old mid → asks_more count (mid.session.items - old.session.items) ≡ true
+    → Counts (Err fault) mid new limits → TakesAtMost count old new
+takes_until count (ReadFault session) old mid new limits within asks counts =
+    takes_same count old mid new within counts.0
 takes_until count WriteFault old mid new limits within asks counts = absurd counts
 takes_until count (ItemLimit session) old mid new limits within asks counts = absurd counts
-takes_until count (OctetLimit session) old mid new limits within asks counts = takes_same count old mid new within counts.0
+takes_until count (OctetLimit session) old mid new limits within asks counts =
+    takes_same count old mid new within counts.0
 takes_until count OutOfMemory old mid new limits within asks counts = takes_more count old mid new within asks counts.0
 
 -- a turn that failed passes no limit
-pub stays_until : (fault : RunFault) (old mid new : PeerState) (limits : Limits) → StaysWithin limits old mid → mid.session.items < limits.items → Counts (Err fault) mid new limits → StaysWithin limits old new
-stays_until (ReadFault session) old mid new limits stays below counts = (λ begun. omega (arith, below, counts.0), λ begun. omega (arith, counts.2))
+pub stays_until : (fault : RunFault) (old mid new : PeerState) (limits : Limits) → StaysWithin limits old mid
+    → mid.session.items < limits.items → Counts (Err fault) mid new limits → StaysWithin limits old new
+stays_until (ReadFault session) old mid new limits stays below counts =
+    (λ begun. omega (arith, below, counts.0), λ begun. omega (arith, counts.2))
 stays_until WriteFault old mid new limits stays below counts = absurd counts
 stays_until (ItemLimit session) old mid new limits stays below counts = absurd counts
-stays_until (OctetLimit session) old mid new limits stays below counts = (λ begun. omega (arith, below, counts.0), λ begun. omega (arith, stays.1 begun, counts.4))
-stays_until OutOfMemory old mid new limits stays below counts = (λ begun. omega (arith, below, counts.0), λ begun. omega (arith, stays.1 begun, counts.1))
+stays_until (OctetLimit session) old mid new limits stays below counts =
+    (λ begun. omega (arith, below, counts.0), λ begun. omega (arith, stays.1 begun, counts.4))
+stays_until OutOfMemory old mid new limits stays below counts =
+    (λ begun. omega (arith, below, counts.0), λ begun. omega (arith, stays.1 begun, counts.1))
 
 -- a pull whose turn failed
-pub pulled_until : (events : List Event) (effects : List Effect) (old_left mid_left new_left : Option (List Event)) (old_held new_held : Option (List ℕ)) (fault : RunFault) (old mid new : PeerState) (limits : Limits)
-    → (far : SoFar old.number events effects old_left mid_left old_held new_held mid) → Turned (events ++ far.gave) (effects ++ far.more) mid_left new_left (Err fault) new
+pub pulled_until : (events : List Event) (effects : List Effect) (old_left mid_left new_left : Option (List Event))
+    (old_held new_held : Option (List ℕ)) (fault : RunFault) (old mid new : PeerState) (limits : Limits)
+    → (far : SoFar old.number events effects old_left mid_left old_held new_held mid)
+    → Turned (events ++ far.gave) (effects ++ far.more) mid_left new_left (Err fault) new
     → mid.ended ≡ false → Counts (Err fault) mid new limits → HadMemory {T = Unit {0}} (Err fault)
     → Pulled events effects old_left new_left old_held new_held (Err fault) old new
-pulled_until events effects old_left mid_left new_left old_held new_held (ReadFault session) old mid new limits far turned unmet counts had =
+pulled_until events effects old_left mid_left new_left old_held new_held (ReadFault session) old mid new limits far
+    turned unmet counts had =
     pulled_so_far events effects old_left new_left old_held new_held (Err (ReadFault session)) old new
-    (so_far_none old.number events effects old_left mid_left new_left old_held new_held mid new (Err (ReadFault session)) far turned turned.shows) (counts.1 ∙ unmet) tt
+    (so_far_none old.number events effects old_left mid_left new_left old_held new_held mid new
+    (Err (ReadFault session)) far turned turned.shows) (counts.1 ∙ unmet) tt
 pulled_until events effects old_left mid_left new_left old_held new_held WriteFault old mid new limits far turned unmet counts had = absurd counts
 pulled_until events effects old_left mid_left new_left old_held new_held (ItemLimit session) old mid new limits far turned unmet counts had = absurd counts
-pulled_until events effects old_left mid_left new_left old_held new_held (OctetLimit session) old mid new limits far turned unmet counts had =
+pulled_until events effects old_left mid_left new_left old_held new_held (OctetLimit session) old mid new limits far
+    turned unmet counts had =
     pulled_so_far events effects old_left new_left old_held new_held (Err (OctetLimit session)) old new
-    (so_far_none old.number events effects old_left mid_left new_left old_held new_held mid new (Err (OctetLimit session)) far turned turned.shows) (counts.1 ∙ unmet) tt
+    (so_far_none old.number events effects old_left mid_left new_left old_held new_held mid new
+    (Err (OctetLimit session)) far turned turned.shows) (counts.1 ∙ unmet) tt
 pulled_until events effects old_left mid_left new_left old_held new_held OutOfMemory old mid new limits far turned unmet counts had = absurd had
 
 -- what a sink took of the end line, by the two clauses that say so
-pub took_end : (result : Result (Unit {0}) RunFault) (old new : Option (List ℕ)) (line : List ℕ) → OnOk result (Appends old new line) → IfErr result (λ fault. fault ≡ WriteFault) → OnErr result ((n : ℕ) × (n ≤ length line) × Appends old new (take n line)) → TookEnd result old new line
+pub took_end : (result : Result (Unit {0}) RunFault) (old new : Option (List ℕ)) (line : List ℕ)
+    → OnOk result (Appends old new line) → IfErr result (λ fault. fault ≡ WriteFault)
+    → OnErr result ((n : ℕ) × (n ≤ length line) × Appends old new (take n line)) → TookEnd result old new line
 took_end (Ok done) old new line ok err cut = ok
 took_end (Err fault) old new line ok err cut = (err, cut)
 
 -- a pull that is asked for nothing, or after the end
-pub pulled_none : (events : List Event) (effects : List Effect) (left : Option (List Event)) (held : Option (List ℕ)) (now : PeerState) → StandsFor events effects now → now.ended ≡ true → Pulled events effects left left held held (Ok tt) now now
+pub pulled_none : (events : List Event) (effects : List Effect) (left : Option (List Event)) (held : Option (List ℕ))
+    (now : PeerState) → StandsFor events effects now → now.ended ≡ true
+    → Pulled events effects left left held held (Ok tt) now now
 pulled_none events effects left held now stands ended =
     let far = so_far_begins now.number events effects left held now stands in
     let met : met_end now now ≡ false = ap (λ (b : Bool). not b && now.ended) ended in
@@ -325,17 +429,29 @@ pulled_none events effects left held now stands ended =
       told = far.told;
       stands = far.stands;
       emptied = λ is. let clash : true ≡ false = sym is ∙ met in cc;
-      wrote = (reset_lines now.number (length effects) far.more, no_end now.number (events ++ far.gave) effects far.more (met_end now now) met, far.wrote);
+      wrote = (
+        reset_lines now.number (length effects) far.more,
+        no_end now.number (events ++ far.gave) effects far.more (met_end now now) met,
+        far.wrote,
+      );
     }
 
 -- how a pull that met the end, or that took all that was asked for, ends
-pub ends_at_end : (count : Option ℕ) (limits : Limits) (old new : PeerState) (result : Result (Unit {0}) RunFault) → old.ended ≡ false → new.ended ≡ true → asks_more count (new.session.items - old.session.items) ≡ true → new.session.items < limits.items → new.octets < limits.octets → IfErr result (λ fault. fault ≡ WriteFault) → EndsBy count limits old new result
-ends_at_end count limits old new (Ok done) unmet ended asks items octets err = inr (unmet, inl (ended, asks, items, octets))
-ends_at_end count limits old new (Err fault) unmet ended asks items octets err = subst (λ (f : RunFault). EndsBy count limits old new (Err f)) (sym err) (unmet, λ is. asks)
+pub ends_at_end : (count : Option ℕ) (limits : Limits) (old new : PeerState) (result : Result (Unit {0}) RunFault)
+    → old.ended ≡ false → new.ended ≡ true → asks_more count (new.session.items - old.session.items) ≡ true
+    → new.session.items < limits.items → new.octets < limits.octets → IfErr result (λ fault. fault ≡ WriteFault)
+    → EndsBy count limits old new result
+ends_at_end count limits old new (Ok done) unmet ended asks items octets err =
+    inr (unmet, inl (ended, asks, items, octets))
+ends_at_end count limits old new (Err fault) unmet ended asks items octets err =
+    subst (λ (f : RunFault). EndsBy count limits old new (Err f)) (sym err) (unmet, λ is. asks)
 
 -- a pull that memory ran out for, where it had come so far
-pub stopped_at : (count : Option ℕ) (events : List Event) (effects : List Effect) (old : PeerState) (old_left left : Option (List Event)) (old_held held : Option (List ℕ)) (now : PeerState) → now.session.config ≡ old.session.config → TakesAtMost count old now
-    → SoFar old.number events effects old_left left old_held held now → Stopped count events effects old old_left old_held held
+pub stopped_at : (count : Option ℕ) (events : List Event) (effects : List Effect) (old : PeerState)
+    (old_left left : Option (List Event)) (old_held held : Option (List ℕ)) (now : PeerState)
+    → now.session.config ≡ old.session.config → TakesAtMost count old now
+    → SoFar old.number events effects old_left left old_held held now
+    → Stopped count events effects old old_left old_held held
 stopped_at count events effects old old_left left old_held held now is most far = record {
   gave = far.gave;
   more = far.more;
@@ -357,18 +473,31 @@ end_had (Ok done) err = tt
 end_had (Err fault) err = subst (λ (f : RunFault). HadMemory {T = Unit {0}} (Err f)) (sym err) tt
 
 -- how a pull ends whose turn failed
-pub ends_until : (count : Option ℕ) (fault : RunFault) (old mid new : PeerState) (limits : Limits) → IsTurnFault old.number fault → old.ended ≡ false → mid.ended ≡ false → asks_more count (mid.session.items - old.session.items) ≡ true
+pub ends_until : (count : Option ℕ) (fault : RunFault) (old mid new : PeerState) (limits : Limits)
+    → IsTurnFault old.number fault → old.ended ≡ false → mid.ended ≡ false
+    → asks_more count (mid.session.items - old.session.items) ≡ true
     → mid.session.items < limits.items → Counts (Err fault) mid new limits → EndsBy count limits old new (Err fault)
-ends_until count (ReadFault session) old mid new limits is begun unmet asks few counts =
-    (is, (begun, counts.1 ∙ unmet, ap (λ (n : ℕ). asks_more count (n - old.session.items)) counts.0 ∙ asks), omega (arith, counts.0, few), counts.2, counts.3)
+ends_until count (ReadFault session) old mid new limits is begun unmet asks few counts = (
+  is,
+  (begun, counts.1 ∙ unmet, ap (λ (n : ℕ). asks_more count (n - old.session.items)) counts.0 ∙ asks),
+  omega (arith, counts.0, few),
+  counts.2,
+  counts.3,
+)
 ends_until count WriteFault old mid new limits is begun unmet asks few counts = absurd counts
 ends_until count (ItemLimit session) old mid new limits is begun unmet asks few counts = absurd counts
-ends_until count (OctetLimit session) old mid new limits is begun unmet asks few counts =
-    (is, (begun, counts.1 ∙ unmet, ap (λ (n : ℕ). asks_more count (n - old.session.items)) counts.0 ∙ asks), omega (arith, counts.0, few), counts.2, counts.3)
+ends_until count (OctetLimit session) old mid new limits is begun unmet asks few counts = (
+  is,
+  (begun, counts.1 ∙ unmet, ap (λ (n : ℕ). asks_more count (n - old.session.items)) counts.0 ∙ asks),
+  omega (arith, counts.0, few),
+  counts.2,
+  counts.3,
+)
 ends_until count OutOfMemory old mid new limits is begun unmet asks few counts = tt
 
 -- a pull after the end does nothing
-pub pull_after_end : (count : Option ℕ) (limits : Limits) (left : Option (List Event)) (held : Option (List ℕ)) (now : PeerState) → now.ended ≡ true → Pull count limits left left held held (Ok tt) now now
+pub pull_after_end : (count : Option ℕ) (limits : Limits) (left : Option (List Event)) (held : Option (List ℕ))
+    (now : PeerState) → now.ended ≡ true → Pull count limits left left held held (Ok tt) now now
 pull_after_end count limits left held now ended = record {
   pulled = λ events effects stands had. pulled_none events effects left held now stands ended;
   stopped = λ events effects stands wanted. absurd (had_memory (Ok tt) tt wanted);

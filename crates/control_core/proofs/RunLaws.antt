@@ -19,7 +19,8 @@ use Rattle.control_core.specs.Effects.{HoldsSoMany}
 use Rattle.control_core.specs.Runs.{Steps, Limited, Takes, RunsFrom, Runs}
 use Rattle.control_core.proofs.Counting.{same_length}
 
-one_row : (config : SessionConfig) (state : State) (item : Item) (a b : Outcome) → Steps config state item a → Steps config state item b → a ≡ b
+one_row : (config : SessionConfig) (state : State) (item : Item) (a b : Outcome) → Steps config state item a
+    → Steps config state item b → a ≡ b
 one_row config state came_up a b p q = one_outcome config state fsm.Up a b p q
 one_row config state (message whole) a b p q =
     let kind = kind_of (type_field whole) in
@@ -31,23 +32,31 @@ one_row config state (passed seconds) a b p q = one_outcome config state (fsm.El
 -- so many prefixes are held, and no other number
 pub one_count : (effects : List Effect) (a b : ℕ) → HoldsSoMany effects a → HoldsSoMany effects b → a ≡ b
 one_count effects a b p q =
-    p.counted ∙ same_length p.prefixes q.prefixes p.distinct q.distinct (λ x has. (q.each x).1 ((p.each x).0 has)) (λ x has. (p.each x).1 ((q.each x).0 has)) ∙ sym q.counted
+    p.counted
+    ∙ same_length p.prefixes q.prefixes p.distinct q.distinct (λ x has. (q.each x).1 ((p.each x).0 has))
+    (λ x has. (p.each x).1 ((q.each x).0 has)) ∙ sym q.counted
 
-one_limited : (maximum : ℕ) (before : List Effect) (next : State) (effect : Effect) (a b : Outcome) → Limited maximum before (next, effect) a → Limited maximum before (next, effect) b → a ≡ b
+one_limited : (maximum : ℕ) (before : List Effect) (next : State) (effect : Effect) (a b : Outcome)
+    → Limited maximum before (next, effect) a → Limited maximum before (next, effect) b → a ≡ b
 one_limited maximum before next Nothing a b p q = p ∙ sym q
 one_limited maximum before next Advanced a b p q = p ∙ sym q
 one_limited maximum before next (Reset cause) a b p q = p ∙ sym q
 one_limited maximum before next (Changes update) a b p q =
     let count : p.0 ≡ q.0 = one_count (before ++ Changes update ∷ []) p.0 q.0 p.1 q.1 in
-    p.2 ∙ ap (λ (n : ℕ). if nat_lt maximum n then ended (Fault CEASE MAXIMUM_PREFIXES_REACHED) else (next, Changes update)) count ∙ sym q.2
+    p.2 ∙ ap
+    (λ (n : ℕ). if nat_lt maximum n then ended (Fault CEASE MAXIMUM_PREFIXES_REACHED) else (next, Changes update))
+    count ∙ sym q.2
 
-one_taken : (config : SessionConfig) (before : List Effect) (state : State) (item : Item) (a b : Outcome) → Takes config before state item a → Takes config before state item b → a ≡ b
+one_taken : (config : SessionConfig) (before : List Effect) (state : State) (item : Item) (a b : Outcome)
+    → Takes config before state item a → Takes config before state item b → a ≡ b
 one_taken config before state item a b p q =
     let row : p.0 ≡ q.0 = one_row config state item p.0 q.0 p.1 q.1 in
     one_limited config.max before q.0.0 q.0.1 a b (subst (λ (r : Outcome). Limited config.max before r a) row p.2) q.2
 
-one_run_from : (config : SessionConfig) (before : List Effect) (state : State) (items : List Item) (effects others : List Effect) (last other : State)
-    → RunsFrom config before state items effects last → RunsFrom config before state items others other → (effects ≡ others) × (last ≡ other)
+one_run_from : (config : SessionConfig) (before : List Effect) (state : State) (items : List Item)
+    (effects others : List Effect) (last other : State)
+    → RunsFrom config before state items effects last → RunsFrom config before state items others other
+    → (effects ≡ others) × (last ≡ other)
 one_run_from config before state [] effects others last other p q = (p.0 ∙ sym q.0, p.1 ∙ sym q.1)
 one_run_from config before state (item ∷ items) effects others last other p q =
     let same : p.0 ≡ q.0 = one_taken config before state item p.0 q.0 p.1 q.1 in
@@ -60,7 +69,8 @@ pub one_run : (config : SessionConfig) (items : List Item) (effects others : Lis
 one_run config items effects others last other p q = one_run_from config [] Idle items effects others last other p q
 
 -- the effects of a run begin with those before it
-pub grows : (config : SessionConfig) (before : List Effect) (state : State) (items : List Item) (effects : List Effect) (last : State)
+pub grows : (config : SessionConfig) (before : List Effect) (state : State) (items : List Item) (effects : List Effect)
+    (last : State)
     → RunsFrom config before state items effects last → (later : List Effect) × (effects ≡ before ++ later)
 grows config before state [] effects last runs = ([], runs.0 ∙ sym (append-nil before))
 grows config before state (item ∷ items) effects last runs =
@@ -75,7 +85,8 @@ pub record InParts (config : SessionConfig) (before : List Effect) (state : Stat
   pub runs : RunsFrom config before state items (before ++ first) mid
   pub parts : effects ≡ (before ++ first) ++ later
 
-pub in_parts : (config : SessionConfig) (before : List Effect) (state : State) (items others : List Item) (effects : List Effect) (last : State)
+pub in_parts : (config : SessionConfig) (before : List Effect) (state : State) (items others : List Item)
+    (effects : List Effect) (last : State)
     → RunsFrom config before state (items ++ others) effects last → InParts config before state items effects
 in_parts config before state [] others effects last runs =
     let grown = grows config before state others effects last runs in
@@ -88,11 +99,17 @@ in_parts config before state [] others effects last runs =
     }
 in_parts config before state (item ∷ items) others effects last runs =
     let rest = in_parts config (before ++ runs.0.1 ∷ []) runs.0.0 items others effects last runs.2 in
-    let same : (before ++ runs.0.1 ∷ []) ++ rest.first ≡ before ++ (runs.0.1 ∷ rest.first) = append_assoc before (runs.0.1 ∷ []) rest.first in
+    let same : (before ++ runs.0.1 ∷ []) ++ rest.first ≡ before
+    ++ (runs.0.1 ∷ rest.first) = append_assoc before (runs.0.1 ∷ []) rest.first in
     record {
       first = runs.0.1 ∷ rest.first;
       later = rest.later;
       mid = rest.mid;
-      runs = (runs.0, runs.1, subst (λ (es : List Effect). RunsFrom config (before ++ runs.0.1 ∷ []) runs.0.0 items es rest.mid) same rest.runs);
+      runs = (
+        runs.0,
+        runs.1,
+        subst (λ (es : List Effect). RunsFrom config (before ++ runs.0.1 ∷ []) runs.0.0 items es rest.mid) same
+            rest.runs,
+      );
       parts = rest.parts ∙ ap (λ (es : List Effect). es ++ rest.later) same;
     }

@@ -1,5 +1,6 @@
 -- A turn of a session with its feed: the item that it took, or the events that came.
-use Rattle.std.proofs.Common.{◌≡◌, ℕ, ◌+◌, Bool, true, false, List, [], ◌∷◌, ◌++◌, length, map, drop, Option, Some, None, Result, Ok, Err, refl, sym, ap, subst, ◌∙◌, append_assoc, arith, add-zero, zero-add}
+use Rattle.std.proofs.Common.{◌≡◌, ℕ, ◌+◌, Bool, true, false, List, [], ◌∷◌, ◌++◌, length, map, drop, Option, Some}
+use Rattle.std.proofs.Common.{None, Result, Ok, Err, refl, sym, ap, subst, ◌∙◌, append_assoc, arith, add-zero, zero-add}
 use Rattle.std.specs.Prelude.{IfOk}
 use Rattle.std.proofs.lemmas.List.{append_cancel_left, append-nil}
 use Rattle.std.specs.List.{concat}
@@ -16,12 +17,15 @@ use Rattle.session_fsm.specs.declared.items.Effect.{Effect}
 use Rattle.session_fsm.specs.declared.items.Item.TheVariants as fsm
 use Rattle.session_fsm.specs.Table.{Standing}
 use Rattle.control_core.specs.declared.limits.RunFault.{RunFault}
-use Rattle.control_core.specs.declared.limits.RunFault.TheVariants.{ReadFault, WriteFault, ItemLimit, OctetLimit, OutOfMemory}
+use Rattle.control_core.specs.declared.limits.RunFault.TheVariants.{ReadFault, WriteFault, ItemLimit, OctetLimit}
+use Rattle.control_core.specs.declared.limits.RunFault.TheVariants.{OutOfMemory}
 use Rattle.control_core.specs.declared.peering.Peering.{Peering}
 use Rattle.control_core.specs.declared.peering.Turn.{Turn}
 use Rattle.control_core.specs.declared.peering.Turn.TheVariants.{Took, Octets}
 use Rattle.control_core.specs.declared.peering.Turn.TheVariants as turn
-use Rattle.control_core.specs.Items.{Item, came_up, message, bad_header, went_down, passed, Connection, connection_after, connection_at_end, octet_count, left_behind, LeavesOctets, IsRest, AreItems, AreItemsOf}
+use Rattle.control_core.specs.Items.{Item, came_up, message, bad_header, went_down, passed, Connection}
+use Rattle.control_core.specs.Items.{connection_after, connection_at_end, octet_count, left_behind, LeavesOctets}
+use Rattle.control_core.specs.Items.{IsRest, AreItems, AreItemsOf}
 use Rattle.control_core.specs.Effects.{HoldsAll}
 use Rattle.control_core.specs.Peers.{held_octets, peer_of}
 use Rattle.control_core.specs.States.{PeerState}
@@ -33,11 +37,15 @@ use Rattle.control_core.specs.TurnParts.{CountsItem, IsItem, TookItem, answer_of
 use Rattle.control_core.specs.Turns.{Counts, HadMemory, Shows, Turned}
 use Rattle.control_core.specs.FeedCalls.{Fills, Gave, IsEmptied}
 use Rattle.control_core.specs.declared.limits.Limits.{Limits}
-use Rattle.control_core.proofs.ItemLaws.{needed, needed_is, needed_behind, needed_more, none_needed, fault_needed, still_faulty, brought, connection_at_end-append}
-use Rattle.control_core.proofs.HistoryLaws.{SameBut, takes_message, stands_after_pending, stands_after_event, items_one_more, none_pending, connection_begun, message_pending, fault_behind, fault_pending}
+use Rattle.control_core.proofs.ItemLaws.{needed, needed_is, needed_behind, needed_more, none_needed, fault_needed}
+use Rattle.control_core.proofs.ItemLaws.{still_faulty, brought, connection_at_end-append}
+use Rattle.control_core.proofs.HistoryLaws.{SameBut, takes_message, stands_after_pending, stands_after_event}
+use Rattle.control_core.proofs.HistoryLaws.{items_one_more, none_pending, connection_begun, message_pending}
+use Rattle.control_core.proofs.HistoryLaws.{fault_behind, fault_pending}
 
 -- how many octets came in events one after the other
-pub octet_count-append : (events later : List Event) → octet_count (events ++ later) ≡ octet_count events + octet_count later
+pub octet_count-append : (events later : List Event)
+    → octet_count (events ++ later) ≡ octet_count events + octet_count later
 octet_count-append [] later = sym (zero-add (octet_count later))
 octet_count-append (up ∷ events) later = octet_count-append events later
 octet_count-append (octets piece ∷ events) later = omega (arith, octet_count-append events later)
@@ -45,16 +53,23 @@ octet_count-append (down ∷ events) later = octet_count-append events later
 octet_count-append (elapsed seconds ∷ events) later = octet_count-append events later
 
 -- a peering that holds no octets
-holds_none_of : (receiving : Bool) (connection : Connection) (new : Peering) → new.reassembly.framer ≡ [] → new.reassembly.waiting ≡ [] → new.reassembly.receiving ≡ receiving → HoldsConnection receiving connection [] [] → HoldsConnection new.reassembly.receiving connection (held_octets new.reassembly) []
+holds_none_of : (receiving : Bool) (connection : Connection) (new : Peering) → new.reassembly.framer ≡ []
+    → new.reassembly.waiting ≡ [] → new.reassembly.receiving ≡ receiving → HoldsConnection receiving connection [] []
+    → HoldsConnection new.reassembly.receiving connection (held_octets new.reassembly) []
 holds_none_of receiving connection new framer waiting is holds =
     let none : held_octets new.reassembly ≡ [] = ap (λ (t : List ℕ). t ++ new.reassembly.waiting) framer ∙ waiting in
-    subst (λ (t : List ℕ). HoldsConnection new.reassembly.receiving connection t []) (sym none) (subst (λ (b : Bool). HoldsConnection b connection [] []) (sym is) holds)
+    subst (λ (t : List ℕ). HoldsConnection new.reassembly.receiving connection t []) (sym none)
+    (subst (λ (b : Bool). HoldsConnection b connection [] []) (sym is) holds)
 
 -- where a part of a message is held, no item is still to be taken
-pub idle : (events : List Event) (effects : List Effect) (old : Peering) → (stands : StandsFor events effects (peer_of old)) → IsShort old.reassembly.framer → old.reassembly.waiting ≡ [] → stands.pending ≡ []
+pub idle : (events : List Event) (effects : List Effect) (old : Peering)
+    → (stands : StandsFor events effects (peer_of old)) → IsShort old.reassembly.framer → old.reassembly.waiting ≡ []
+    → stands.pending ≡ []
 idle events effects old stands short none =
-    let all : held_octets old.reassembly ≡ old.reassembly.framer = ap (λ (t : List ℕ). old.reassembly.framer ++ t) none ∙ append-nil old.reassembly.framer in
-    none_pending old.reassembly.receiving (connection_at_end None events) (held_octets old.reassembly) stands.pending (subst IsShort (sym all) short) stands.connection
+    let all : held_octets old.reassembly ≡ old.reassembly.framer = ap (λ (t : List ℕ). old.reassembly.framer ++ t) none
+    ∙ append-nil old.reassembly.framer in
+    none_pending old.reassembly.receiving (connection_at_end None events) (held_octets old.reassembly) stands.pending
+    (subst IsShort (sym all) short) stands.connection
 
 seconds_bring : (connection : Connection) (seconds : ℕ) → brought connection (elapsed seconds) ≡ passed seconds ∷ []
 unfolding brought
@@ -66,17 +81,24 @@ seconds_stay None seconds = refl
 seconds_stay (Some text) seconds = refl
 
 -- more octets of a connection bring the items of what is held with them
-more_held : (text part piece : List ℕ) → IsShort part → IsUsedUpTo text part [] → IsUsedUpTo (text ++ piece) (part ++ piece) (needed_more text piece).0
+more_held : (text part piece : List ℕ) → IsShort part → IsUsedUpTo text part []
+    → IsUsedUpTo (text ++ piece) (part ++ piece) (needed_more text piece).0
 more_held text part piece short is =
-    let joined : text ++ piece ≡ concat is.used ++ (part ++ piece) = ap (λ (t : List ℕ). t ++ piece) is.parts ∙ append_assoc (concat is.used) part piece in
-    let alone : needed text ≡ map message is.used = ap needed is.parts ∙ needed_behind is.used part is.each ∙ ap (λ (xs : List Item). map message is.used ++ xs) (none_needed part short) ∙ append-nil (map message is.used) in
+    let joined : text ++ piece ≡ concat is.used ++ (part ++ piece) = ap (λ (t : List ℕ). t ++ piece) is.parts
+    ∙ append_assoc (concat is.used) part piece in
+    let alone : needed text ≡ map message is.used = ap needed is.parts ∙ needed_behind is.used part is.each
+    ∙ ap (λ (xs : List Item). map message is.used ++ xs) (none_needed part short) ∙ append-nil (map message is.used)
+    in
     let both : map message is.used ++ (needed_more text piece).0 ≡ map message is.used ++ needed (part ++ piece) =
-    ap (λ (xs : List Item). xs ++ (needed_more text piece).0) (sym alone) ∙ sym (needed_more text piece).1 ∙ ap needed joined ∙ needed_behind is.used (part ++ piece) is.each in
+    ap (λ (xs : List Item). xs ++ (needed_more text piece).0) (sym alone) ∙ sym (needed_more text piece).1
+    ∙ ap needed joined ∙ needed_behind is.used (part ++ piece) is.each in
     record {
       used = is.used;
       parts = joined;
       each = is.each;
-      items = subst (AreItemsOf (part ++ piece)) (sym (append_cancel_left (map message is.used) (needed_more text piece).0 (needed (part ++ piece)) both)) (needed_is (part ++ piece));
+      items = subst (AreItemsOf (part ++ piece))
+          (sym (append_cancel_left (map message is.used) (needed_more text piece).0 (needed (part ++ piece)) both))
+          (needed_is (part ++ piece));
     }
 
 -- more octets behind a header fault bring nothing, and it stays
@@ -85,20 +107,30 @@ more_behind_fault text piece is =
     let f = is.framing in
     let faulty : IsFaulty f.rest is.subcode = subst (EndsAs f.rest) is.fault f.framed.ends in
     let still = still_faulty f.rest piece is.subcode faulty in
-    let joined : text ++ piece ≡ concat f.messages ++ (f.rest ++ piece) = ap (λ (t : List ℕ). t ++ piece) f.framed.parts ∙ append_assoc (concat f.messages) f.rest piece in
-    let alone : needed text ≡ map message f.messages ++ bad_header is.subcode ∷ [] = ap needed f.framed.parts ∙ needed_behind f.messages f.rest f.framed.each ∙ ap (λ (xs : List Item). map message f.messages ++ xs) (fault_needed f.rest is.subcode faulty) in
-    let longer : needed (text ++ piece) ≡ map message f.messages ++ bad_header is.subcode ∷ [] = ap needed joined ∙ needed_behind f.messages (f.rest ++ piece) f.framed.each ∙ ap (λ (xs : List Item). map message f.messages ++ xs) (fault_needed (f.rest ++ piece) is.subcode still) in (
-      append_cancel_left (needed text) (needed_more text piece).0 [] (sym (needed_more text piece).1 ∙ longer ∙ sym alone ∙ sym (append-nil (needed text))),
+    let joined : text ++ piece ≡ concat f.messages ++ (f.rest ++ piece) = ap (λ (t : List ℕ). t ++ piece) f.framed.parts
+    ∙ append_assoc (concat f.messages) f.rest piece in
+    let alone : needed text ≡ map message f.messages ++ bad_header is.subcode ∷ [] = ap needed f.framed.parts
+    ∙ needed_behind f.messages f.rest f.framed.each
+    ∙ ap (λ (xs : List Item). map message f.messages ++ xs) (fault_needed f.rest is.subcode faulty) in
+    let longer : needed (text ++ piece) ≡ map message f.messages ++ bad_header is.subcode ∷ [] = ap needed joined
+    ∙ needed_behind f.messages (f.rest ++ piece) f.framed.each
+    ∙ ap (λ (xs : List Item). map message f.messages ++ xs) (fault_needed (f.rest ++ piece) is.subcode still) in (
+      append_cancel_left (needed text) (needed_more text piece).0 []
+          (sym (needed_more text piece).1 ∙ longer ∙ sym alone ∙ sym (append-nil (needed text))),
       fault_behind (text ++ piece) f.messages (f.rest ++ piece) is.subcode joined f.framed.each still,
     )
 
 -- what is held after octets came
-octets_hold : (connection : Connection) (part piece : List ℕ) (receiving : Bool) (waiting : List ℕ) → (receiving ≡ true → waiting ≡ piece) → (receiving ≡ false → waiting ≡ []) → IsShort part → HoldsConnection receiving connection part []
-    → HoldsConnection receiving (connection_after connection (octets piece)) (part ++ waiting) (brought connection (octets piece))
+octets_hold : (connection : Connection) (part piece : List ℕ) (receiving : Bool) (waiting : List ℕ)
+    → (receiving ≡ true → waiting ≡ piece) → (receiving ≡ false → waiting ≡ []) → IsShort part
+    → HoldsConnection receiving connection part []
+    → HoldsConnection receiving (connection_after connection (octets piece)) (part ++ waiting)
+    (brought connection (octets piece))
 unfolding brought
 octets_hold None part piece true waiting kept dropped short holds = absurd holds
 octets_hold (Some text) part piece true waiting kept dropped short holds =
-    subst (λ (w : List ℕ). IsUsedUpTo (text ++ piece) (part ++ w) (needed_more text piece).0) (sym (kept refl)) (more_held text part piece short holds)
+    subst (λ (w : List ℕ). IsUsedUpTo (text ++ piece) (part ++ w) (needed_more text piece).0) (sym (kept refl))
+    (more_held text part piece short holds)
 octets_hold None part piece false waiting kept dropped short holds =
     (ap (λ (w : List ℕ). part ++ w) (dropped refl) ∙ append-nil part ∙ holds.0, refl)
 octets_hold (Some text) part piece false waiting kept dropped short holds =
@@ -106,97 +138,153 @@ octets_hold (Some text) part piece false waiting kept dropped short holds =
     (ap (λ (w : List ℕ). part ++ w) (dropped refl) ∙ append-nil part ∙ holds.0, more.0, more.1)
 
 -- what a turn answers where an item was taken, by what it is after each of the two outcomes of memory
-pub answered : (P : Result Turn RunFault → Type 0) (taken : Result (Option ResetCause) memory.OutOfMemory) (result : Result Turn RunFault) (Q : Option ResetCause → Type 0)
-    → IfOk taken Q → result ≡ answer_of taken → HadMemory result → ((reset : Option ResetCause) → Q reset → P (Ok (Took reset))) → P result
+pub answered : (P : Result Turn RunFault → Type 0) (taken : Result (Option ResetCause) memory.OutOfMemory)
+    (result : Result Turn RunFault) (Q : Option ResetCause → Type 0)
+    → IfOk taken Q → result ≡ answer_of taken → HadMemory result
+    → ((reset : Option ResetCause) → Q reset → P (Ok (Took reset))) → P result
 answered P (Ok reset) result Q is same had make = subst P (sym same) (make reset is)
 answered P (Err failed) result Q is same had make = absurd (subst HadMemory same had)
 
 -- the message in front was taken
-pub took_message : (events : List Event) (effects : List Effect) (old new : Peering) (kind : MsgKind) (body : Bor (List ℕ)) (taken : Result (Option ResetCause) memory.OutOfMemory) (result : Result Turn RunFault)
-    → StandsFor events effects (peer_of old) → IsMessage old.reassembly.framer → kind ≡ kind_of (type_field old.reassembly.framer) → body.now ≡ drop 19 old.reassembly.framer
-    → SameBut (peer_of old) (peer_of new) → new.reassembly.framer ≡ [] → new.reassembly.waiting ≡ old.reassembly.waiting → new.reassembly.receiving ≡ old.reassembly.receiving
-    → ((before : List Effect) → HoldsAll before old.rib → IfOk taken (TookRow old.session (fsm.Message kind body) before new.session new.rib))
+pub took_message : (events : List Event) (effects : List Effect) (old new : Peering) (kind : MsgKind)
+    (body : Bor (List ℕ)) (taken : Result (Option ResetCause) memory.OutOfMemory) (result : Result Turn RunFault)
+    → StandsFor events effects (peer_of old) → IsMessage old.reassembly.framer
+    → kind ≡ kind_of (type_field old.reassembly.framer) → body.now ≡ drop 19 old.reassembly.framer
+    → SameBut (peer_of old) (peer_of new) → new.reassembly.framer ≡ [] → new.reassembly.waiting ≡ old.reassembly.waiting
+    → new.reassembly.receiving ≡ old.reassembly.receiving
+    → ((before : List Effect) → HoldsAll before old.rib
+    → IfOk taken (TookRow old.session (fsm.Message kind body) before new.session new.rib))
     → result ≡ answer_of taken → HadMemory result → TookItem events effects (peer_of new) result
-took_message events effects old new kind body taken result stands is is_kind is_body same framer waiting receiving took answer had =
+took_message events effects old new kind body taken result stands is is_kind is_body same framer waiting receiving took
+    answer had =
     let connection = connection_at_end None events in
-    let front = message_pending connection old.reassembly.framer old.reassembly.waiting stands.pending old.reassembly.receiving is stands.connection in
-    let now : held_octets new.reassembly ≡ old.reassembly.waiting = ap (λ (t : List ℕ). t ++ new.reassembly.waiting) framer ∙ waiting in
-    let holds : HoldsConnection new.reassembly.receiving connection (held_octets new.reassembly) (needed old.reassembly.waiting) =
-    subst (λ (t : List ℕ). HoldsConnection new.reassembly.receiving connection t (needed old.reassembly.waiting)) (sym now) (subst (λ (b : Bool). HoldsConnection b connection old.reassembly.waiting (needed old.reassembly.waiting)) (sym receiving) front.1) in
-    answered (TookItem events effects (peer_of new)) taken result (TookRow old.session (fsm.Message kind body) effects new.session new.rib) (took effects stands.routes) answer had
+    let front =
+    message_pending connection old.reassembly.framer old.reassembly.waiting stands.pending old.reassembly.receiving
+    is stands.connection in
+    let now : held_octets new.reassembly
+    ≡ old.reassembly.waiting = ap (λ (t : List ℕ). t ++ new.reassembly.waiting) framer ∙ waiting in
+    let holds : HoldsConnection new.reassembly.receiving connection (held_octets new.reassembly)
+    (needed old.reassembly.waiting) =
+    subst (λ (t : List ℕ). HoldsConnection new.reassembly.receiving connection t (needed old.reassembly.waiting))
+    (sym now)
+    (subst (λ (b : Bool). HoldsConnection b connection old.reassembly.waiting (needed old.reassembly.waiting))
+    (sym receiving) front.1) in
+    answered (TookItem events effects (peer_of new)) taken result
+    (TookRow old.session (fsm.Message kind body) effects new.session new.rib) (took effects stands.routes) answer
+    had
     (λ reset row. record {
       effect = row.outcome.1;
-      stands = stands_after_pending events effects (peer_of old) (peer_of new) row.outcome reset (message old.reassembly.framer) (needed old.reassembly.waiting) stands same front.0
-          (takes_message old.session new.session old.reassembly.framer kind body effects new.rib reset is_kind is_body row) row.came holds;
+      stands =
+          stands_after_pending events effects (peer_of old) (peer_of new) row.outcome reset
+          (message old.reassembly.framer) (needed old.reassembly.waiting) stands same front.0
+          (takes_message old.session new.session old.reassembly.framer kind body effects new.rib reset is_kind is_body
+          row) row.came holds;
       told = ap (λ (r : Option ResetCause). Ok (Took r)) row.came.told;
     })
 
 -- the header fault in front was taken
-pub took_fault : (events : List Event) (effects : List Effect) (old new : Peering) (subcode : ℕ) (taken : Result (Option ResetCause) memory.OutOfMemory) (result : Result Turn RunFault)
+pub took_fault : (events : List Event) (effects : List Effect) (old new : Peering) (subcode : ℕ)
+    (taken : Result (Option ResetCause) memory.OutOfMemory) (result : Result Turn RunFault)
     → StandsFor events effects (peer_of old) → IsFaulty old.reassembly.framer subcode
-    → SameBut (peer_of old) (peer_of new) → new.reassembly.framer ≡ [] → new.reassembly.waiting ≡ [] → new.reassembly.receiving ≡ false
-    → ((before : List Effect) → HoldsAll before old.rib → IfOk taken (TookRow old.session (fsm.HeaderFault subcode) before new.session new.rib))
+    → SameBut (peer_of old) (peer_of new) → new.reassembly.framer ≡ [] → new.reassembly.waiting ≡ []
+    → new.reassembly.receiving ≡ false
+    → ((before : List Effect) → HoldsAll before old.rib
+    → IfOk taken (TookRow old.session (fsm.HeaderFault subcode) before new.session new.rib))
     → result ≡ answer_of taken → HadMemory result → TookItem events effects (peer_of new) result
 took_fault events effects old new subcode taken result stands is same framer waiting receiving took answer had =
     let connection = connection_at_end None events in
-    let front = fault_pending connection old.reassembly.framer old.reassembly.waiting stands.pending subcode old.reassembly.receiving is stands.connection in
-    answered (TookItem events effects (peer_of new)) taken result (TookRow old.session (fsm.HeaderFault subcode) effects new.session new.rib) (took effects stands.routes) answer had
+    let front =
+    fault_pending connection old.reassembly.framer old.reassembly.waiting stands.pending subcode
+    old.reassembly.receiving is stands.connection in
+    answered (TookItem events effects (peer_of new)) taken result
+    (TookRow old.session (fsm.HeaderFault subcode) effects new.session new.rib) (took effects stands.routes) answer
+    had
     (λ reset row. record {
       effect = row.outcome.1;
-      stands = stands_after_pending events effects (peer_of old) (peer_of new) row.outcome reset (bad_header subcode) [] stands same front.0
-          (row.row, row.step, row.limited) row.came (holds_none_of false connection new framer waiting receiving front.1);
+      stands =
+          stands_after_pending events effects (peer_of old) (peer_of new) row.outcome reset (bad_header subcode) []
+          stands same front.0
+          (row.row, row.step, row.limited) row.came
+          (holds_none_of false connection new framer waiting receiving front.1);
       told = ap (λ (r : Option ResetCause). Ok (Took r)) row.came.told;
     })
 
 -- the transport came up
-pub took_up : (events : List Event) (effects : List Effect) (old new : Peering) (taken : Result (Option ResetCause) memory.OutOfMemory) (result : Result Turn RunFault)
+pub took_up : (events : List Event) (effects : List Effect) (old new : Peering)
+    (taken : Result (Option ResetCause) memory.OutOfMemory) (result : Result Turn RunFault)
     → StandsFor events effects (peer_of old) → IsShort old.reassembly.framer → old.reassembly.waiting ≡ []
-    → SameBut (peer_of old) (peer_of new) → new.reassembly.framer ≡ [] → new.reassembly.waiting ≡ [] → new.reassembly.receiving ≡ true
-    → ((before : List Effect) → HoldsAll before old.rib → IfOk taken (TookRow old.session fsm.Up before new.session new.rib))
+    → SameBut (peer_of old) (peer_of new) → new.reassembly.framer ≡ [] → new.reassembly.waiting ≡ []
+    → new.reassembly.receiving ≡ true
+    → ((before : List Effect) → HoldsAll before old.rib
+    → IfOk taken (TookRow old.session fsm.Up before new.session new.rib))
     → result ≡ answer_of taken → HadMemory result → TookItem (events ++ up ∷ []) effects (peer_of new) result
 unfolding brought
 took_up events effects old new taken result stands short none same framer waiting receiving took answer had =
-    answered (TookItem (events ++ up ∷ []) effects (peer_of new)) taken result (TookRow old.session fsm.Up effects new.session new.rib) (took effects stands.routes) answer had
+    answered (TookItem (events ++ up ∷ []) effects (peer_of new)) taken result
+    (TookRow old.session fsm.Up effects new.session new.rib) (took effects stands.routes) answer had
     (λ reset row. record {
       effect = row.outcome.1;
-      stands = stands_after_event events up effects (peer_of old) (peer_of new) row.outcome reset came_up stands same (idle events effects old stands short none) refl (octet_count-append events (up ∷ []) ∙ add-zero (octet_count events))
-          (row.row, row.step, row.limited) row.came (holds_none_of true (Some []) new framer waiting receiving connection_begun);
+      stands =
+          stands_after_event events up effects (peer_of old) (peer_of new) row.outcome reset came_up stands same
+          (idle events effects old stands short none) refl
+          (octet_count-append events (up ∷ []) ∙ add-zero (octet_count events))
+          (row.row, row.step, row.limited) row.came
+          (holds_none_of true (Some []) new framer waiting receiving connection_begun);
       told = ap (λ (r : Option ResetCause). Ok (Took r)) row.came.told;
     })
 
 -- the transport went down
-pub took_down : (events : List Event) (effects : List Effect) (old new : Peering) (taken : Result (Option ResetCause) memory.OutOfMemory) (result : Result Turn RunFault)
+pub took_down : (events : List Event) (effects : List Effect) (old new : Peering)
+    (taken : Result (Option ResetCause) memory.OutOfMemory) (result : Result Turn RunFault)
     → StandsFor events effects (peer_of old) → IsShort old.reassembly.framer → old.reassembly.waiting ≡ []
-    → SameBut (peer_of old) (peer_of new) → new.reassembly.framer ≡ [] → new.reassembly.waiting ≡ [] → new.reassembly.receiving ≡ false
-    → ((before : List Effect) → HoldsAll before old.rib → IfOk taken (TookRow old.session fsm.Down before new.session new.rib))
+    → SameBut (peer_of old) (peer_of new) → new.reassembly.framer ≡ [] → new.reassembly.waiting ≡ []
+    → new.reassembly.receiving ≡ false
+    → ((before : List Effect) → HoldsAll before old.rib
+    → IfOk taken (TookRow old.session fsm.Down before new.session new.rib))
     → result ≡ answer_of taken → HadMemory result → TookItem (events ++ down ∷ []) effects (peer_of new) result
 unfolding brought
 took_down events effects old new taken result stands short none same framer waiting receiving took answer had =
-    answered (TookItem (events ++ down ∷ []) effects (peer_of new)) taken result (TookRow old.session fsm.Down effects new.session new.rib) (took effects stands.routes) answer had
+    answered (TookItem (events ++ down ∷ []) effects (peer_of new)) taken result
+    (TookRow old.session fsm.Down effects new.session new.rib) (took effects stands.routes) answer had
     (λ reset row. record {
       effect = row.outcome.1;
-      stands = stands_after_event events down effects (peer_of old) (peer_of new) row.outcome reset went_down stands same (idle events effects old stands short none) refl (octet_count-append events (down ∷ []) ∙ add-zero (octet_count events))
-          (row.row, row.step, row.limited) row.came (holds_none_of false None new framer waiting receiving (refl, refl));
+      stands =
+          stands_after_event events down effects (peer_of old) (peer_of new) row.outcome reset went_down stands same
+          (idle events effects old stands short none) refl
+          (octet_count-append events (down ∷ []) ∙ add-zero (octet_count events))
+          (row.row, row.step, row.limited) row.came
+          (holds_none_of false None new framer waiting receiving (refl, refl));
       told = ap (λ (r : Option ResetCause). Ok (Took r)) row.came.told;
     })
 
 -- seconds passed
-pub took_seconds : (events : List Event) (effects : List Effect) (seconds : ℕ) (old new : Peering) (taken : Result (Option ResetCause) memory.OutOfMemory) (result : Result Turn RunFault)
+pub took_seconds : (events : List Event) (effects : List Effect) (seconds : ℕ) (old new : Peering)
+    (taken : Result (Option ResetCause) memory.OutOfMemory) (result : Result Turn RunFault)
     → StandsFor events effects (peer_of old) → IsShort old.reassembly.framer → old.reassembly.waiting ≡ []
     → SameBut (peer_of old) (peer_of new) → new.reassembly ≡ old.reassembly
-    → ((before : List Effect) → HoldsAll before old.rib → IfOk taken (TookRow old.session (fsm.Elapsed seconds) before new.session new.rib))
-    → result ≡ answer_of taken → HadMemory result → TookItem (events ++ elapsed seconds ∷ []) effects (peer_of new) result
+    → ((before : List Effect) → HoldsAll before old.rib
+    → IfOk taken (TookRow old.session (fsm.Elapsed seconds) before new.session new.rib))
+    → result ≡ answer_of taken → HadMemory result
+    → TookItem (events ++ elapsed seconds ∷ []) effects (peer_of new) result
 unfolding brought
 took_seconds events effects seconds old new taken result stands short none same reassembly took answer had =
     let connection = connection_at_end None events in
     let idle_now = idle events effects old stands short none in
-    let before : HoldsConnection old.reassembly.receiving connection (held_octets old.reassembly) [] = subst (HoldsConnection old.reassembly.receiving connection (held_octets old.reassembly)) idle_now stands.connection in
-    answered (TookItem (events ++ elapsed seconds ∷ []) effects (peer_of new)) taken result (TookRow old.session (fsm.Elapsed seconds) effects new.session new.rib) (took effects stands.routes) answer had
+    let before : HoldsConnection old.reassembly.receiving connection (held_octets old.reassembly) [] = subst
+    (HoldsConnection old.reassembly.receiving connection (held_octets old.reassembly)) idle_now stands.connection in
+    answered (TookItem (events ++ elapsed seconds ∷ []) effects (peer_of new)) taken result
+    (TookRow old.session (fsm.Elapsed seconds) effects new.session new.rib) (took effects stands.routes) answer had
     (λ reset row. record {
       effect = row.outcome.1;
-      stands = stands_after_event events (elapsed seconds) effects (peer_of old) (peer_of new) row.outcome reset (passed seconds) stands same idle_now (seconds_bring connection seconds) (octet_count-append events (elapsed seconds ∷ []) ∙ add-zero (octet_count events))
+      stands =
+          stands_after_event events (elapsed seconds) effects (peer_of old) (peer_of new) row.outcome reset
+          (passed seconds) stands same idle_now (seconds_bring connection seconds)
+          (octet_count-append events (elapsed seconds ∷ []) ∙ add-zero (octet_count events))
           (row.row, row.step, row.limited) row.came
-          (subst (λ (s : Connection). HoldsConnection new.reassembly.receiving s (held_octets new.reassembly) []) (sym (seconds_stay connection seconds)) (subst (λ (i : Reassembly). HoldsConnection i.receiving connection (held_octets i) []) (sym reassembly) before));
+          (subst (λ (s : Connection). HoldsConnection new.reassembly.receiving s (held_octets new.reassembly) [])
+          (sym (seconds_stay connection seconds))
+          (subst (λ (i : Reassembly). HoldsConnection i.receiving connection (held_octets i) [])
+          (sym reassembly) before));
       told = ap (λ (r : Option ResetCause). Ok (Took r)) row.came.told;
     })
 
@@ -205,14 +293,22 @@ pub stands_with_octets : (events : List Event) (effects : List Effect) (piece : 
     → StandsFor events effects (peer_of old) → IsShort old.reassembly.framer → old.reassembly.waiting ≡ []
     → new.session ≡ old.session → new.rib ≡ old.rib → new.octets ≡ old.octets + length piece
     → new.reassembly.framer ≡ old.reassembly.framer → new.reassembly.receiving ≡ old.reassembly.receiving
-    → (old.reassembly.receiving ≡ true → new.reassembly.waiting ≡ piece) → (old.reassembly.receiving ≡ false → new.reassembly.waiting ≡ [])
+    → (old.reassembly.receiving ≡ true → new.reassembly.waiting ≡ piece)
+    → (old.reassembly.receiving ≡ false → new.reassembly.waiting ≡ [])
     → StandsFor (events ++ octets piece ∷ []) effects (peer_of new)
 stands_with_octets events effects piece old new stands short none session rib count framer receiving kept dropped =
     let connection = connection_at_end None events in
     let idle_now = idle events effects old stands short none in
-    let before : HoldsConnection old.reassembly.receiving connection old.reassembly.framer [] = subst (λ (t : List ℕ). HoldsConnection old.reassembly.receiving connection t []) (ap (λ (t : List ℕ). old.reassembly.framer ++ t) none ∙ append-nil old.reassembly.framer) (subst (HoldsConnection old.reassembly.receiving connection (held_octets old.reassembly)) idle_now stands.connection) in
-    let now = octets_hold connection old.reassembly.framer piece old.reassembly.receiving new.reassembly.waiting kept dropped short before in
-    let took : stands.took ++ stands.pending ≡ stands.took = ap (λ (xs : List Item). stands.took ++ xs) idle_now ∙ append-nil stands.took in
+    let before : HoldsConnection old.reassembly.receiving connection old.reassembly.framer [] = subst
+    (λ (t : List ℕ). HoldsConnection old.reassembly.receiving connection t [])
+    (ap (λ (t : List ℕ). old.reassembly.framer ++ t) none ∙ append-nil old.reassembly.framer)
+    (subst (HoldsConnection old.reassembly.receiving connection (held_octets old.reassembly)) idle_now
+    stands.connection) in
+    let now =
+    octets_hold connection old.reassembly.framer piece old.reassembly.receiving new.reassembly.waiting kept dropped
+    short before in
+    let took : stands.took ++ stands.pending ≡ stands.took = ap (λ (xs : List Item). stands.took ++ xs) idle_now
+    ∙ append-nil stands.took in
     record {
       took = stands.took;
       pending = brought connection (octets piece);
@@ -221,10 +317,17 @@ stands_with_octets events effects piece old new stands short none session rib co
       counted = ap (λ (s : Standing). s.items) session ∙ stands.counted;
       routes = subst (HoldsAll effects) (sym rib) stands.routes;
       connection =
-          subst (λ (s : Connection). HoldsConnection new.reassembly.receiving s (held_octets new.reassembly) (brought connection (octets piece))) (sym (connection_at_end-append None events (octets piece ∷ [])))
-          (subst (λ (t : List ℕ). HoldsConnection new.reassembly.receiving (connection_after connection (octets piece)) (t ++ new.reassembly.waiting) (brought connection (octets piece))) (sym framer)
-          (subst (λ (b : Bool). HoldsConnection b (connection_after connection (octets piece)) (old.reassembly.framer ++ new.reassembly.waiting) (brought connection (octets piece))) (sym receiving) now));
-      octets = count ∙ ap (λ n. n + length piece) stands.octets ∙ ap (λ n. octet_count events + n) (sym (add-zero (length piece))) ∙ sym (octet_count-append events (octets piece ∷ []));
+          subst (λ (s : Connection). HoldsConnection new.reassembly.receiving s (held_octets new.reassembly)
+          (brought connection (octets piece))) (sym (connection_at_end-append None events (octets piece ∷ [])))
+          (subst (λ (t : List ℕ). HoldsConnection new.reassembly.receiving (connection_after connection (octets piece))
+          (t ++ new.reassembly.waiting) (brought connection (octets piece))) (sym framer)
+          (subst (λ (b : Bool). HoldsConnection b (connection_after connection (octets piece))
+          (old.reassembly.framer ++ new.reassembly.waiting) (brought connection (octets piece))) (sym receiving)
+          now));
+      octets =
+          count ∙ ap (λ n. n + length piece) stands.octets
+          ∙ ap (λ n. octet_count events + n) (sym (add-zero (length piece)))
+          ∙ sym (octet_count-append events (octets piece ∷ []));
     }
 
 -- a feed that was not asked gave nothing
@@ -233,35 +336,44 @@ gave_none None = tt
 gave_none (Some events) = refl
 
 -- the items and octets of a turn that took an item
-pub counts_item : (result : Result Turn RunFault) (old new : PeerState) (limits : Limits) → IsItem result → CountsItem old new → Counts result old new limits
+pub counts_item : (result : Result Turn RunFault) (old new : PeerState) (limits : Limits) → IsItem result
+    → CountsItem old new → Counts result old new limits
 counts_item (Ok (Took reset)) old new limits is counts = (counts.items, counts.octets, counts.ended)
 counts_item (Ok Octets) old new limits is counts = absurd is
 counts_item (Ok (turn.End rest)) old new limits is counts = absurd is
 counts_item (Err (ReadFault session)) old new limits is counts = let clash : ReadFault session ≡ OutOfMemory = is in cc
 counts_item (Err WriteFault) old new limits is counts = let clash : WriteFault ≡ OutOfMemory = is in cc
 counts_item (Err (ItemLimit session)) old new limits is counts = let clash : ItemLimit session ≡ OutOfMemory = is in cc
-counts_item (Err (OctetLimit session)) old new limits is counts = let clash : OctetLimit session ≡ OutOfMemory = is in cc
+counts_item (Err (OctetLimit session)) old new limits is counts = let clash : OctetLimit session ≡ OutOfMemory = is in
+    cc
 counts_item (Err OutOfMemory) old new limits is counts = (counts.items, counts.octets)
 
 -- a turn that took an item of an event that came, or of no new one
-pub turned_item : (events gave : List Event) (effects : List Effect) (old_left new_left : Option (List Event)) (result : Result Turn RunFault) (new : PeerState)
-    → Gave old_left gave new_left → TookItem (events ++ gave) effects new result → Turned events effects old_left new_left result new
+pub turned_item : (events gave : List Event) (effects : List Effect) (old_left new_left : Option (List Event))
+    (result : Result Turn RunFault) (new : PeerState)
+    → Gave old_left gave new_left → TookItem (events ++ gave) effects new result
+    → Turned events effects old_left new_left result new
 turned_item events gave effects old_left new_left result new told took = record {
   gave = gave;
   more = took.effect ∷ [];
   told = told;
   stands = took.stands;
-  shows = subst (λ (r : Result Turn RunFault). Shows r (took.effect ∷ []) (events ++ gave) old_left new_left) (sym took.told) (took.effect, refl, refl);
+  shows = subst (λ (r : Result Turn RunFault). Shows r (took.effect ∷ []) (events ++ gave) old_left new_left)
+      (sym took.told) (took.effect, refl, refl);
 }
 
-pub turned_held : (events : List Event) (effects : List Effect) (left : Option (List Event)) (result : Result Turn RunFault) (new : PeerState)
+pub turned_held : (events : List Event) (effects : List Effect) (left : Option (List Event))
+    (result : Result Turn RunFault) (new : PeerState)
     → TookItem events effects new result → Turned events effects left left result new
 turned_held events effects left result new took =
-    turned_item events [] effects left left result new (gave_none left) (subst (λ (es : List Event). TookItem es effects new result) (sym (append-nil events)) took)
+    turned_item events [] effects left left result new (gave_none left)
+    (subst (λ (es : List Event). TookItem es effects new result) (sym (append-nil events)) took)
 
 -- a turn that took no item
-pub turned_none : (events gave : List Event) (effects : List Effect) (old_left new_left : Option (List Event)) (result : Result Turn RunFault) (new : PeerState)
-    → Gave old_left gave new_left → StandsFor (events ++ gave) effects new → Shows result [] (events ++ gave) old_left new_left → Turned events effects old_left new_left result new
+pub turned_none : (events gave : List Event) (effects : List Effect) (old_left new_left : Option (List Event))
+    (result : Result Turn RunFault) (new : PeerState)
+    → Gave old_left gave new_left → StandsFor (events ++ gave) effects new
+    → Shows result [] (events ++ gave) old_left new_left → Turned events effects old_left new_left result new
 turned_none events gave effects old_left new_left result new told stands shows = record {
   gave = gave;
   more = [];
@@ -270,12 +382,15 @@ turned_none events gave effects old_left new_left result new told stands shows =
   shows = shows;
 }
 
-pub no_event : (events : List Event) (effects : List Effect) (new : PeerState) → StandsFor events effects new → StandsFor (events ++ []) effects new
-no_event events effects new stands = subst (λ (es : List Event). StandsFor es effects new) (sym (append-nil events)) stands
+pub no_event : (events : List Event) (effects : List Effect) (new : PeerState) → StandsFor events effects new
+    → StandsFor (events ++ []) effects new
+no_event events effects new stands =
+    subst (λ (es : List Event). StandsFor es effects new) (sym (append-nil events)) stands
 
 -- a session with the same session, octets and routes stands for the same
 pub stands_alike : (events : List Event) (effects : List Effect) (old new : PeerState) → StandsFor events effects old
-    → new.session ≡ old.session → new.routes ≡ old.routes → new.octets ≡ old.octets → new.held ≡ old.held → new.receiving ≡ old.receiving
+    → new.session ≡ old.session → new.routes ≡ old.routes → new.octets ≡ old.octets → new.held ≡ old.held
+    → new.receiving ≡ old.receiving
     → StandsFor events effects new
 stands_alike events effects old new stands session rib count same receiving =
     let connection = connection_at_end None events in
@@ -286,26 +401,41 @@ stands_alike events effects old new stands session rib count same receiving =
       runs = subst (λ (s : Standing). Runs s.config stands.took effects s.state) (sym session) stands.runs;
       counted = ap (λ (s : Standing). s.items) session ∙ stands.counted;
       routes = subst (HoldsAll effects) (sym rib) stands.routes;
-      connection = subst (λ (b : Bool). HoldsConnection b connection (new.held) stands.pending) (sym receiving) (subst (λ (t : List ℕ). HoldsConnection old.receiving connection t stands.pending) (sym same) stands.connection);
+      connection =
+          subst (λ (b : Bool). HoldsConnection b connection (new.held) stands.pending) (sym receiving)
+          (subst (λ (t : List ℕ). HoldsConnection old.receiving connection t stands.pending) (sym same)
+          stands.connection);
       octets = count ∙ stands.octets;
     }
 
-rest_of_connection : (connection : Connection) (part : List ℕ) (receiving : Bool) → IsShort part → HoldsConnection receiving connection part [] → LeavesOctets connection (length part)
+rest_of_connection : (connection : Connection) (part : List ℕ) (receiving : Bool) → IsShort part
+    → HoldsConnection receiving connection part [] → LeavesOctets connection (length part)
 rest_of_connection None part true short holds = absurd holds
-rest_of_connection (Some text) part true short holds =
-    (record { messages = holds.used; rest = part; end = Clean; framed = record { parts = holds.parts; each = holds.each; ends = short } }, refl)
+rest_of_connection (Some text) part true short holds = (
+  record {
+    messages = holds.used;
+    rest = part;
+    end = Clean;
+    framed = record { parts = holds.parts; each = holds.each; ends = short };
+  },
+  refl,
+)
 rest_of_connection None part false short holds = ap length holds.0
 rest_of_connection (Some text) part false short holds =
     let is = holds.2 in
     (is.framing, ap length holds.0 ∙ sym (ap (λ (e : End). left_behind e is.framing.rest) is.fault))
 
 -- at the end of the events the part of a message that is held is what is left
-pub rest_is : (events : List Event) (effects : List Effect) (old : Peering) → StandsFor events effects (peer_of old) → IsShort old.reassembly.framer → old.reassembly.waiting ≡ [] → IsRest events (length old.reassembly.framer)
+pub rest_is : (events : List Event) (effects : List Effect) (old : Peering) → StandsFor events effects (peer_of old)
+    → IsShort old.reassembly.framer → old.reassembly.waiting ≡ [] → IsRest events (length old.reassembly.framer)
 rest_is events effects old stands short none =
     let idle_now = idle events effects old stands short none in
-    let all : held_octets old.reassembly ≡ old.reassembly.framer = ap (λ (t : List ℕ). old.reassembly.framer ++ t) none ∙ append-nil old.reassembly.framer in
+    let all : held_octets old.reassembly ≡ old.reassembly.framer = ap (λ (t : List ℕ). old.reassembly.framer ++ t) none
+    ∙ append-nil old.reassembly.framer in
     rest_of_connection (connection_at_end None events) old.reassembly.framer old.reassembly.receiving short
-    (subst (λ (t : List ℕ). HoldsConnection old.reassembly.receiving (connection_at_end None events) t []) all (subst (HoldsConnection old.reassembly.receiving (connection_at_end None events) (held_octets old.reassembly)) idle_now stands.connection))
+    (subst (λ (t : List ℕ). HoldsConnection old.reassembly.receiving (connection_at_end None events) t []) all
+    (subst (HoldsConnection old.reassembly.receiving (connection_at_end None events) (held_octets old.reassembly))
+    idle_now stands.connection))
 
 -- a feed that came to its end has nothing left
 pub emptied : (old new : Option (List Event)) (piece : List ℕ) → Fills old new (Ok feed.End) piece → IsEmptied old new
@@ -313,9 +443,13 @@ emptied None new piece fills = tt
 emptied (Some old) new piece fills = fills.ends.1
 
 -- a session beside whose octets none came
-pub stands_unfilled : (events : List Event) (effects : List Effect) (old new : Peering) → StandsFor events effects (peer_of old) → old.reassembly.waiting ≡ []
-    → new.session ≡ old.session → new.rib ≡ old.rib → new.octets ≡ old.octets → new.reassembly.framer ≡ old.reassembly.framer → new.reassembly.waiting ≡ [] → new.reassembly.receiving ≡ old.reassembly.receiving
+pub stands_unfilled : (events : List Event) (effects : List Effect) (old new : Peering)
+    → StandsFor events effects (peer_of old) → old.reassembly.waiting ≡ []
+    → new.session ≡ old.session → new.rib ≡ old.rib → new.octets ≡ old.octets
+    → new.reassembly.framer ≡ old.reassembly.framer → new.reassembly.waiting ≡ []
+    → new.reassembly.receiving ≡ old.reassembly.receiving
     → StandsFor events effects (peer_of new)
 stands_unfilled events effects old new stands none session rib count framer waiting receiving =
     stands_alike events effects (peer_of old) (peer_of new) stands session rib count
-    (ap (λ (t : List ℕ). t ++ new.reassembly.waiting) framer ∙ ap (λ (t : List ℕ). old.reassembly.framer ++ t) (waiting ∙ sym none)) receiving
+    (ap (λ (t : List ℕ). t ++ new.reassembly.waiting) framer
+    ∙ ap (λ (t : List ℕ). old.reassembly.framer ++ t) (waiting ∙ sym none)) receiving

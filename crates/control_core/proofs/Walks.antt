@@ -18,8 +18,11 @@ walk_begins all value old = record {
   part = λ p has. has;
 }
 
-still_set : (x p : Block) (rest : List Block) (value : Option (Option ℕ)) (now next : Routes) → ChangesAt x value now next → Has (x ∷ rest) p ⊎ (routes_at now p ≡ value) → Has rest p ⊎ (routes_at next p ≡ value)
-still_set x p rest value now next change (inl (inl same)) = inr (subst (λ (q : Block). routes_at next q ≡ value) (sym same) change.here)
+still_set : (x p : Block) (rest : List Block) (value : Option (Option ℕ)) (now next : Routes)
+    → ChangesAt x value now next → Has (x ∷ rest) p ⊎ (routes_at now p ≡ value)
+    → Has rest p ⊎ (routes_at next p ≡ value)
+still_set x p rest value now next change (inl (inl same)) =
+    inr (subst (λ (q : Block). routes_at next q ≡ value) (sym same) change.here)
 still_set x p rest value now next change (inl (inr later)) = inl later
 still_set x p rest value now next change (inr is) =
     elim (same_block p x) [
@@ -27,17 +30,20 @@ still_set x p rest value now next change (inr is) =
       | inr other ↦ inr (change.others p other ∙ is)
     ]
 
-pub walk_goes_on : (all rest : List Block) (x : Block) (value : Option (Option ℕ)) (old now next : Routes) → IsUnderWay all (x ∷ rest) value old now → ChangesAt x value now next → IsUnderWay all rest value old next
+pub walk_goes_on : (all rest : List Block) (x : Block) (value : Option (Option ℕ)) (old now next : Routes)
+    → IsUnderWay all (x ∷ rest) value old now → ChangesAt x value now next → IsUnderWay all rest value old next
 walk_goes_on all rest x value old now next walk change = record {
   set = λ p has. still_set x p rest value now next change (walk.set p has);
   others = λ p never. change.others p (λ same. never (walk.part p (inl same))) ∙ walk.others p never;
   part = λ p has. walk.part p (inr has);
 }
 
-none_left : (p : Block) (value : Option (Option ℕ)) (now : Routes) → Has [] p ⊎ (routes_at now p ≡ value) → routes_at now p ≡ value
+none_left : (p : Block) (value : Option (Option ℕ)) (now : Routes) → Has [] p ⊎ (routes_at now p ≡ value)
+    → routes_at now p ≡ value
 none_left p value now (inl never) = absurd never
 none_left p value now (inr is) = is
 
-pub walk_ends : (all left : List Block) (value : Option (Option ℕ)) (old now : Routes) → left ≡ [] → IsUnderWay all left value old now → (p : Block) → Has all p → routes_at now p ≡ value
+pub walk_ends : (all left : List Block) (value : Option (Option ℕ)) (old now : Routes) → left ≡ []
+    → IsUnderWay all left value old now → (p : Block) → Has all p → routes_at now p ≡ value
 walk_ends all left value old now end walk p has =
     none_left p value now (subst (λ (qs : List Block). Has qs p ⊎ (routes_at now p ≡ value)) end (walk.set p has))

@@ -7,7 +7,8 @@ use Rattle.adj_rib.specs.Routes.{Routes, prefixes_of, routes_at}
 
 -- the prefix is in one of both tables, and not in the other
 abbrev pub CameOrWent : Routes → Routes → Block → Type 0
-CameOrWent old new p = (IsNone (routes_at old p) × IsSome (routes_at new p)) ⊎ (IsSome (routes_at old p) × IsNone (routes_at new p))
+CameOrWent old new p =
+    (IsNone (routes_at old p) × IsSome (routes_at new p)) ⊎ (IsSome (routes_at old p) × IsNone (routes_at new p))
 
 -- there is a list of just the prefixes that came or went, each once, and this is its length
 pub record IsDifference (old new : Routes) (count : ℕ) : Type 0 where

@@ -15,7 +15,8 @@ event_of (Ok (Elapsed seconds)) piece = elapsed seconds ∷ []
 event_of (Ok End) piece = []
 event_of (Err failed) piece = []
 
--- where a feed tells its events, those that it gave and those that are left are those that it had, but for cuts; it tells them still
+-- where a feed tells its events, those that it gave and those that are left are those that it had, but for cuts; it
+-- tells them still
 abbrev pub Gave : Option (List Event) → List Event → Option (List Event) → Type 0
 Gave None events new = Unit {0}
 Gave (Some old) events None = ⊥

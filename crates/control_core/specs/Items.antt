@@ -3,7 +3,8 @@ use Rattle.std.specs.Prelude.{◌≡◌, ℕ, ◌+◌, List, [], ◌∷◌, ◌+
 use Rattle.bgp_wire.specs.Frames.{Framing, End, Clean, Fault}
 use Rattle.feed_io.specs.Events.{Event, up, octets, down, elapsed}
 
--- the transport came up, a whole message came, a header with a fault of this subcode came, the transport went down, seconds passed
+-- the transport came up, a whole message came, a header with a fault of this subcode came, the transport went down,
+-- seconds passed
 pub data Item : Type 0 where
   came_up : Item
   message : List ℕ → Item
@@ -34,7 +35,8 @@ abbrev pub end_items : End → List Item
 end_items Clean = []
 end_items (Fault subcode) = bad_header subcode ∷ []
 
--- the items of a text: its whole messages, and then the fault of the header behind them; what is behind that fault is none
+-- the items of a text: its whole messages, and then the fault of the header behind them; what is behind that fault is
+-- none
 pub record AreItemsOf (text : List ℕ) (items : List Item) : Type 0 where
   pub framing : Framing text
   pub same : items ≡ map message framing.messages ++ end_items framing.end
@@ -57,7 +59,8 @@ Brings connection (elapsed seconds) items = items ≡ passed seconds ∷ []
 abbrev pub AreItemsAfter : Connection → List Event → List Item → Type 0
 AreItemsAfter connection [] items = items ≡ []
 AreItemsAfter connection (event ∷ events) items =
-    (now : List Item) × (later : List Item) × (items ≡ now ++ later) × Brings connection event now × AreItemsAfter (connection_after connection event) events later
+    (now : List Item) × (later : List Item) × (items ≡ now ++ later) × Brings connection event now
+    × AreItemsAfter (connection_after connection event) events later
 
 -- the items of all events of a feed, in their order; at the beginning no transport is up
 abbrev pub AreItems : List Event → List Item → Type 0

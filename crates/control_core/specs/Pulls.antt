@@ -1,5 +1,6 @@
 -- What a pull takes of a session, and what it writes. Our own choice, over the definitions of items and their effects.
-use Rattle.std.specs.Prelude.{◌≡◌, ◌⊎◌, ℕ, ◌+◌, ◌-◌, ◌<◌, ◌≤◌, nat_lt, Bool, true, false, not, ◌&&◌, List, [], ◌++◌, ◌∷◌, length, Option, Some, None, Result, Ok, Err}
+use Rattle.std.specs.Prelude.{◌≡◌, ◌⊎◌, ℕ, ◌+◌, ◌-◌, ◌<◌, ◌≤◌, nat_lt, Bool, true, false, not, ◌&&◌, List, [], ◌++◌}
+use Rattle.std.specs.Prelude.{◌∷◌, length, Option, Some, None, Result, Ok, Err}
 use Rattle.std.specs.Io.KnownBytes.{Appends}
 use Rattle.bgp_wire.specs.Frames.{IsShort}
 use Rattle.feed_io.specs.Events.{Event}
@@ -8,7 +9,8 @@ use Rattle.session_fsm.specs.declared.items.Effect.{Effect}
 use Rattle.report_text.specs.Lines.{reset_line, end_line}
 use Rattle.control_core.specs.declared.limits.Limits.{Limits}
 use Rattle.control_core.specs.declared.limits.RunFault.{RunFault}
-use Rattle.control_core.specs.declared.limits.RunFault.TheVariants.{ReadFault, WriteFault, ItemLimit, OctetLimit, OutOfMemory}
+use Rattle.control_core.specs.declared.limits.RunFault.TheVariants.{ReadFault, WriteFault, ItemLimit, OctetLimit}
+use Rattle.control_core.specs.declared.limits.RunFault.TheVariants.{OutOfMemory}
 use Rattle.control_core.specs.States.{PeerState}
 use Rattle.control_core.specs.Items.{IsRest}
 use Rattle.control_core.specs.History.{StandsFor}
@@ -29,7 +31,8 @@ reset_text session item (Some cause) = reset_line session item cause
 -- the lines of the resets among items of these effects; so many items came before
 abbrev pub reset_lines : ℕ → ℕ → List Effect → List ℕ
 reset_lines session item [] = []
-reset_lines session item (effect ∷ later) = reset_text session (item + 1) (reset_of effect) ++ reset_lines session (item + 1) later
+reset_lines session item (effect ∷ later) =
+    reset_text session (item + 1) (reset_of effect) ++ reset_lines session (item + 1) later
 
 -- the end line at the end of these events after so many items, and nothing where the end was not met
 abbrev pub IsEndText : ℕ → Bool → List Event → ℕ → List ℕ → Type 0
@@ -46,7 +49,8 @@ pub record IsPullText (session : ℕ) (events : List Event) (before more : List 
 abbrev pub Wrote : Result (Unit {0}) RunFault → (List ℕ → Type 0) → Option (List ℕ) → Option (List ℕ) → Type 0
 Wrote (Ok done) IsText old new = (text : List ℕ) × IsText text × Appends old new text
 Wrote (Err (ReadFault session)) IsText old new = (text : List ℕ) × IsText text × Appends old new text
-Wrote (Err WriteFault) IsText old new = (front : List ℕ) × (rest : List ℕ) × IsText (front ++ rest) × Appends old new front
+Wrote (Err WriteFault) IsText old new =
+    (front : List ℕ) × (rest : List ℕ) × IsText (front ++ rest) × Appends old new front
 Wrote (Err (ItemLimit session)) IsText old new = (text : List ℕ) × IsText text × Appends old new text
 Wrote (Err (OctetLimit session)) IsText old new = (text : List ℕ) × IsText text × Appends old new text
 Wrote (Err OutOfMemory) IsText old new = Unit {0}
@@ -55,7 +59,8 @@ Wrote (Err OutOfMemory) IsText old new = Unit {0}
 abbrev pub met_end : PeerState → PeerState → Bool
 met_end old new = not old.ended && new.ended
 
--- a session that stood for events and effects took more items of what its feed gave, and a sink took what the pull writes
+-- a session that stood for events and effects took more items of what its feed gave, and a sink took what the pull
+-- writes
 pub record Pulled (events : List Event) (effects : List Effect) (old_left new_left : Option (List Event)) (old_held new_held : Option (List ℕ)) (result : Result (Unit {0}) RunFault) (old new : PeerState) : Type 0 where
   pub gave : List Event
   pub more : List Effect
@@ -67,7 +72,8 @@ pub record Pulled (events : List Event) (effects : List Effect) (old_left new_le
 -- no more items are taken than are asked for
 abbrev pub TakesAtMost : Option ℕ → PeerState → PeerState → Type 0
 TakesAtMost None old new = old.session.items ≤ new.session.items
-TakesAtMost (Some count) old new = (old.session.items ≤ new.session.items) × (new.session.items ≤ old.session.items + count)
+TakesAtMost (Some count) old new =
+    (old.session.items ≤ new.session.items) × (new.session.items ≤ old.session.items + count)
 
 -- a pull that memory ran out for had stood for so much before, and a sink had taken the lines of the resets so far
 pub record Stopped (count : Option ℕ) (events : List Event) (effects : List Effect) (old : PeerState) (old_left : Option (List Event)) (old_held new_held : Option (List ℕ)) : Type 0 where
@@ -83,29 +89,41 @@ pub record Stopped (count : Option ℕ) (events : List Event) (effects : List Ef
 
 -- more items are asked for than were taken, and the end was met neither before nor now
 abbrev pub IsAsked : Option ℕ → PeerState → PeerState → Type 0
-IsAsked count old new = (old.ended ≡ false) × (new.ended ≡ false) × (asks_more count (new.session.items - old.session.items) ≡ true)
+IsAsked count old new =
+    (old.ended ≡ false) × (new.ended ≡ false) × (asks_more count (new.session.items - old.session.items) ≡ true)
 
 -- how a pull ends, where it leaves the session so: as it asked, at the end, or for one of these causes
 abbrev pub EndsBy : Option ℕ → Limits → PeerState → PeerState → Result (Unit {0}) RunFault → Type 0
 EndsBy count limits old new (Ok done) =
-    ((old.ended ≡ true) × (new ≡ old)) ⊎ ((old.ended ≡ false) × (((new.ended ≡ true) × (asks_more count (new.session.items - old.session.items) ≡ true) × (new.session.items < limits.items) × (new.octets < limits.octets))
+    ((old.ended ≡ true) × (new ≡ old))
+    ⊎ ((old.ended ≡ false)
+    × (((new.ended ≡ true) × (asks_more count (new.session.items - old.session.items) ≡ true)
+    × (new.session.items < limits.items) × (new.octets < limits.octets))
     ⊎ ((new.ended ≡ false) × (asks_more count (new.session.items - old.session.items) ≡ false))))
 EndsBy count limits old new (Err (ReadFault session)) =
-    (session ≡ old.number) × IsAsked count old new × (new.session.items < limits.items) × (new.octets < limits.octets) × IsShort new.held
-EndsBy count limits old new (Err WriteFault) = (old.ended ≡ false) × (new.ended ≡ true → asks_more count (new.session.items - old.session.items) ≡ true)
-EndsBy count limits old new (Err (ItemLimit session)) = (session ≡ old.number) × IsAsked count old new × (limits.items ≤ new.session.items)
+    (session ≡ old.number) × IsAsked count old new × (new.session.items < limits.items) × (new.octets < limits.octets)
+    × IsShort new.held
+EndsBy count limits old new (Err WriteFault) =
+    (old.ended ≡ false) × (new.ended ≡ true → asks_more count (new.session.items - old.session.items) ≡ true)
+EndsBy count limits old new (Err (ItemLimit session)) =
+    (session ≡ old.number) × IsAsked count old new × (limits.items ≤ new.session.items)
 EndsBy count limits old new (Err (OctetLimit session)) =
-    (session ≡ old.number) × IsAsked count old new × (new.session.items < limits.items) × (limits.octets ≤ new.octets) × IsShort new.held
+    (session ≡ old.number) × IsAsked count old new × (new.session.items < limits.items) × (limits.octets ≤ new.octets)
+    × IsShort new.held
 EndsBy count limits old new (Err OutOfMemory) = Unit {0}
 
 -- a session within a limit stays within it
 abbrev pub StaysWithin : Limits → PeerState → PeerState → Type 0
-StaysWithin limits old new = (old.session.items ≤ limits.items → new.session.items ≤ limits.items) × (old.octets ≤ limits.octets → new.octets ≤ limits.octets)
+StaysWithin limits old new =
+    (old.session.items ≤ limits.items → new.session.items ≤ limits.items)
+    × (old.octets ≤ limits.octets → new.octets ≤ limits.octets)
 
 -- a pull: what it took and wrote, of whatever events the session stood for, how it ended, and what it stayed within
 pub record Pull (count : Option ℕ) (limits : Limits) (old_left new_left : Option (List Event)) (old_held new_held : Option (List ℕ)) (result : Result (Unit {0}) RunFault) (old new : PeerState) : Type 0 where
-  pub pulled : (events : List Event) (effects : List Effect) → StandsFor events effects old → HadMemory result → Pulled events effects old_left new_left old_held new_held result old new
-  pub stopped : (events : List Event) (effects : List Effect) → StandsFor events effects old → result ≡ Err OutOfMemory → Stopped count events effects old old_left old_held new_held
+  pub pulled : (events : List Event) (effects : List Effect) → StandsFor events effects old → HadMemory result
+      → Pulled events effects old_left new_left old_held new_held result old new
+  pub stopped : (events : List Event) (effects : List Effect) → StandsFor events effects old → result ≡ Err OutOfMemory
+      → Stopped count events effects old old_left old_held new_held
   pub ends : EndsBy count limits old new result
   pub most : TakesAtMost count old new
   pub within : StaysWithin limits old new

@@ -4,7 +4,8 @@ use Rattle.adj_rib.specs.Routes.{Routes}
 use Rattle.session_fsm.specs.Table.{Standing}
 use Rattle.control_core.specs.declared.limits.Limits.{Limits}
 
--- a session: its number, its configuration with its state and the items that it took, its Adj-RIB-In, the octets that it
+-- a session: its number, its configuration with its state and the items that it took, its Adj-RIB-In, the octets that
+-- it
 -- holds, whether more octets belong to its connection, how many its feed gave, and whether that came to its end
 pub record PeerState : Type 0 where
   pub number : ℕ

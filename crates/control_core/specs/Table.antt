@@ -7,7 +7,8 @@ use Rattle.adj_rib.specs.Routes.{Routes, routes_at}
 
 -- the table has just the routes that the UPDATEs leave
 abbrev pub HoldsRoutes : List RouteUpdate → Routes → Type 0
-HoldsRoutes updates routes = (p : Block) (origin : Option ℕ) → (routes_at routes p ≡ Some origin) ↔ HasRoute updates p origin
+HoldsRoutes updates routes =
+    (p : Block) (origin : Option ℕ) → (routes_at routes p ≡ Some origin) ↔ HasRoute updates p origin
 
 -- what one UPDATE changes: an announced prefix has its origin, another withdrawn one is gone, and each other stays
 pub record Applies (update : RouteUpdate) (old new : Routes) : Type 0 where

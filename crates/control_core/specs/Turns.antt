@@ -5,7 +5,8 @@ use Rattle.feed_io.specs.Events.{Event}
 use Rattle.session_fsm.specs.declared.items.Effect.{Effect}
 use Rattle.control_core.specs.declared.limits.Limits.{Limits}
 use Rattle.control_core.specs.declared.limits.RunFault.{RunFault}
-use Rattle.control_core.specs.declared.limits.RunFault.TheVariants.{ReadFault, WriteFault, ItemLimit, OctetLimit, OutOfMemory}
+use Rattle.control_core.specs.declared.limits.RunFault.TheVariants.{ReadFault, WriteFault, ItemLimit, OctetLimit}
+use Rattle.control_core.specs.declared.limits.RunFault.TheVariants.{OutOfMemory}
 use Rattle.control_core.specs.States.{PeerState}
 use Rattle.control_core.specs.declared.peering.Turn.{Turn}
 use Rattle.control_core.specs.declared.peering.Turn.TheVariants.{Took, Octets, End}
@@ -46,13 +47,21 @@ pub record Turned (events : List Event) (effects : List Effect) (old_left new_le
   pub stands : StandsFor (events ++ gave) (effects ++ more) new
   pub shows : Shows result more (events ++ gave) old_left new_left
 
--- the items and octets that were taken, by the answer of a turn; a feed is asked only where the octets held have no item
+-- the items and octets that were taken, by the answer of a turn; a feed is asked only where the octets held have no
+-- item
 abbrev pub Counts : Result Turn RunFault → PeerState → PeerState → Limits → Type 0
-Counts (Ok (Took reset)) old new limits = (new.session.items ≡ old.session.items + 1) × (new.octets ≡ old.octets) × (new.ended ≡ old.ended)
-Counts (Ok Octets) old new limits = (new.session.items ≡ old.session.items) × (old.octets < new.octets) × (new.octets ≤ limits.octets) × (new.ended ≡ old.ended)
-Counts (Ok (End rest)) old new limits = (new.session.items ≡ old.session.items) × (new.ended ≡ true) × (new.octets < limits.octets) × IsShort new.held
-Counts (Err (ReadFault session)) old new limits = (new.session.items ≡ old.session.items) × (new.ended ≡ old.ended) × (new.octets < limits.octets) × IsShort new.held
+Counts (Ok (Took reset)) old new limits =
+    (new.session.items ≡ old.session.items + 1) × (new.octets ≡ old.octets) × (new.ended ≡ old.ended)
+Counts (Ok Octets) old new limits =
+    (new.session.items ≡ old.session.items) × (old.octets < new.octets) × (new.octets ≤ limits.octets)
+    × (new.ended ≡ old.ended)
+Counts (Ok (End rest)) old new limits =
+    (new.session.items ≡ old.session.items) × (new.ended ≡ true) × (new.octets < limits.octets) × IsShort new.held
+Counts (Err (ReadFault session)) old new limits =
+    (new.session.items ≡ old.session.items) × (new.ended ≡ old.ended) × (new.octets < limits.octets) × IsShort new.held
 Counts (Err WriteFault) old new limits = ⊥
 Counts (Err (ItemLimit session)) old new limits = ⊥
-Counts (Err (OctetLimit session)) old new limits = (new.session.items ≡ old.session.items) × (new.ended ≡ old.ended) × (limits.octets ≤ new.octets) × IsShort new.held × (new.octets ≡ old.octets)
+Counts (Err (OctetLimit session)) old new limits =
+    (new.session.items ≡ old.session.items) × (new.ended ≡ old.ended) × (limits.octets ≤ new.octets) × IsShort new.held
+    × (new.octets ≡ old.octets)
 Counts (Err OutOfMemory) old new limits = (new.session.items ≡ old.session.items + 1) × (new.octets ≡ old.octets)

@@ -29,7 +29,6 @@ impl Control {
         ensures { IfOk result (IsOpened config limits) }
     {
         Ok(Control {
-            alloc,
             peering: Peering::new(alloc, FIRST_SESSION, config),
             published: AdjRib::new(alloc),
             number: 0,

@@ -3,14 +3,12 @@
 use crate::limits::Limits;
 use crate::peering::Peering;
 use adj_rib::AdjRib;
-use std::alloc::Global;
 use std::marker::Model;
 
 /// A session with its routes, and the routes of the last publication. Once it has answered want of
 /// memory it answers so to every later call that can. Contracts see it as a record of these.
 #[derive(Drop)]
 pub struct Control {
-    pub(crate) alloc: Global,
     pub(crate) peering: Peering,
     pub(crate) published: AdjRib,
     pub(crate) number: u64,

@@ -7,6 +7,7 @@ use Rattle.std.proofs.lemmas.List.{append-nil, length-replicate}
 use Rattle.ip_text.specs.Groups.{IsGroups, IsShortened}
 use Rattle.ip_text.specs.Sides.{Opens, IsSide, SideIs}
 use Rattle.ip_text.specs.Texts.{IsV6}
+use Rattle.ip_text.proofs.Once.{opens_once}
 use Rattle.ip_text.proofs.Shifts.{number-with_zeros}
 
 -- eight groups and no gap
@@ -63,6 +64,47 @@ forms text n is =
       | inl all ↦ inl
           (record { groups = is.groups; eight = is.eight; number = is.number; opens = opens_all text is.groups all })
       | inr short ↦ inr (short_of text is.groups n is.eight is.number short)
+    ]
+
+no_gap_at_end : (after : List ℕ) → [] ≡ 58 ∷ 58 ∷ after → ⊥
+no_gap_at_end after e = omega (arith, ap length e)
+
+plain_once : (text : List ℕ) (n m : ℕ) → Plain text n → Plain text m → n ≡ m
+plain_once text n m f g =
+    f.number
+    ∙ ap (λ gs. number_from_digits_after 65536 0 gs) (opens_once text [] [] f.groups g.groups f.opens g.opens).0
+    ∙ sym g.number
+
+plain_or_short : (text : List ℕ) (n m : ℕ) → Plain text n → Short text m → ⊥
+plain_or_short text n m f g =
+    no_gap_at_end g.after (opens_once text [] (58 ∷ 58 ∷ g.after) f.groups g.left f.opens g.first).1
+
+short_once : (text : List ℕ) (n m : ℕ) → Short text n → Short text m → n ≡ m
+short_once text n m f g =
+    let first = opens_once text (58 ∷ 58 ∷ f.after) (58 ∷ 58 ∷ g.after) f.left g.left f.first g.first in
+    let last = opens_once g.after [] [] f.right g.right
+    (subst (λ (t : List ℕ). Opens t f.right []) (ap (drop 2) first.1) f.last) g.last in
+    f.number
+    ∙ ap (λ gs. number_from_digits_after 65536 0 gs * 2 ^ (16 * (8 - length gs))
+    + number_from_digits_after 65536 0 f.right) first.0
+    ∙ ap (λ gs. number_from_digits_after 65536 0 g.left * 2 ^ (16 * (8 - length g.left))
+    + number_from_digits_after 65536 0 gs) last.0
+    ∙ sym g.number
+
+-- a text is one IPv6 address at most
+pub one_v6 : (text : List ℕ) (n m : ℕ) → IsV6 text n → IsV6 text m → n ≡ m
+one_v6 text n m is other =
+    elim (forms text n is) [
+      | inl f ↦
+          elim (forms text m other) [
+            | inl g ↦ plain_once text n m f g
+            | inr g ↦ absurd (plain_or_short text n m f g)
+          ]
+      | inr f ↦
+          elim (forms text m other) [
+            | inl g ↦ absurd (plain_or_short text m n g f)
+            | inr g ↦ short_once text n m f g
+          ]
     ]
 
 is_some : (r : Option ℕ) (P : Type 0) (v : ℕ) → SomeIff r P v → P → r ≡ Some v

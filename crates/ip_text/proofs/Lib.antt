@@ -1,7 +1,9 @@
+pub mod Addresses
 pub mod Decimals
 pub mod Families
 pub mod Forms
 pub mod Marks
+pub mod Once
 pub mod Printed
 pub mod Shifts
 pub mod Sides

@@ -26,7 +26,7 @@ pub no_gap_of : (text : List ℕ) (b : Bool) → IsTrue b ↔ ((r : List ℕ) ×
     → text ≡ 58 ∷ r → ⊥
 no_gap_of text b tells off r e = let on : b ≡ true = tells.1 (r, e) in cc
 
-lacks_not : (text front others : List ℕ) → LacksByte 58 text → text ≡ front ++ (58 ∷ others) → ⊥
+pub lacks_not : (text front others : List ℕ) → LacksByte 58 text → text ≡ front ++ (58 ∷ others) → ⊥
 lacks_not text front others lacks parts =
     lacks (length front) (omega (arith, ap length parts, length-append front (58 ∷ others)))
     (ap (λ t. get_or t (length front) 0) parts ∙ get_or-append_seam front 58 others 0)

@@ -1,10 +1,12 @@
 -- What holds of every map from prefixes: its lists have what it has, each prefix once, in order.
-use Rattle.std.proofs.Common.{◌≡◌, ℕ, true, cond, List, [], ◌∷◌, map, length, arith, Option, Some, None, refl, sym, ap, subst, ◌∙◌, ◌↔◌}
+use Rattle.std.proofs.Common.{◌≡◌, ℕ, true, cond, List, [], ◌∷◌, map, length, arith, Option, Some, None, refl, sym, ap}
+use Rattle.std.proofs.Common.{subst, ◌∙◌, ◌↔◌}
 use Rattle.std.specs.Option.{IsSome}
 use Rattle.std.specs.declared.cmp.Ordering.TheVariants.{Less}
 use Rattle.std.specs.Cmp.{tied_itself}
 use Rattle.std.specs.Ordering.{is_eq}
-use Rattle.std.specs.FinMap.{empty, entries, keys, get, get-empty, get-entries, get-insert, get-remove, insert, is_sorted, len, len-empty, len-entries, remove, same_map}
+use Rattle.std.specs.FinMap.{empty, entries, keys, get, get-empty, get-entries, get-insert, get-remove, insert}
+use Rattle.std.specs.FinMap.{is_sorted, len, len-empty, len-entries, remove, same_map}
 use Rattle.urpf_base.specs.Address.{Block}
 use Rattle.urpf_base.specs.Lists.{Has, AreDistinct}
 use Rattle.urpf_base.specs.Order.{prefix_order}
@@ -12,7 +14,8 @@ use Rattle.prefix_map.specs.Mapped.{Mapped}
 use Rattle.prefix_map.specs.Order.{IsAscending}
 use Rattle.prefix_map.proofs.Order.{prefix_total, prefix_ties, no_tie}
 use Rattle.prefix_map.proofs.Seen.{entries_ascend}
-use Rattle.prefix_map.proofs.Sorted.{distinct, found, only_found, pair_found, only_pair, all_at, head_below, tail_sorted}
+use Rattle.prefix_map.proofs.Sorted.{distinct, found, only_found, pair_found, only_pair, all_at, head_below}
+use Rattle.prefix_map.proofs.Sorted.{tail_sorted}
 
 -- the first parts of pairs that ascend are in order
 pub ascends : {X : Type 0} (es : List (Block × X)) → is_sorted prefix_order es ≡ true → IsAscending (map (λ e. e.0) es)
@@ -61,14 +64,22 @@ module _ {V : Type 0} where
 
   -- what was set is there, and all else is as it was
   pub set_here : (m n : Mapped V) (p : Block) (v : V) → n ≡ insert m p v → get n p ≡ Some v
-  set_here m n p v is = ap (λ l. get l p) is ∙ get-insert prefix_total m p v p ∙ ap (λ o. cond (is_eq o) (Some v) (get m p)) (tied_itself prefix_total p)
+  set_here m n p v is =
+      ap (λ l. get l p) is ∙ get-insert prefix_total m p v p
+      ∙ ap (λ o. cond (is_eq o) (Some v) (get m p)) (tied_itself prefix_total p)
 
   pub set_others : (m n : Mapped V) (p : Block) (v : V) → n ≡ insert m p v → (q : Block) → ¬ (q ≡ p) → get n q ≡ get m q
-  set_others m n p v is q other = ap (λ l. get l q) is ∙ get-insert prefix_total m p v q ∙ ap (λ b. cond b (Some v) (get m q)) (no_tie q p (λ same. other (sym same)))
+  set_others m n p v is q other =
+      ap (λ l. get l q) is ∙ get-insert prefix_total m p v q
+      ∙ ap (λ b. cond b (Some v) (get m q)) (no_tie q p (λ same. other (sym same)))
 
   -- what was taken out is not there, and all else is as it was
   pub gone_here : (m n : Mapped V) (p : Block) → n ≡ remove m p → get n p ≡ None
-  gone_here m n p is = ap (λ l. get l p) is ∙ get-remove prefix_total m p p ∙ ap (λ o. cond (is_eq o) None (get m p)) (tied_itself prefix_total p)
+  gone_here m n p is =
+      ap (λ l. get l p) is ∙ get-remove prefix_total m p p
+      ∙ ap (λ o. cond (is_eq o) None (get m p)) (tied_itself prefix_total p)
 
   pub gone_others : (m n : Mapped V) (p : Block) → n ≡ remove m p → (q : Block) → ¬ (q ≡ p) → get n q ≡ get m q
-  gone_others m n p is q other = ap (λ l. get l q) is ∙ get-remove prefix_total m p q ∙ ap (λ b. cond b None (get m q)) (no_tie q p (λ same. other (sym same)))
+  gone_others m n p is q other =
+      ap (λ l. get l q) is ∙ get-remove prefix_total m p q
+      ∙ ap (λ b. cond b None (get m q)) (no_tie q p (λ same. other (sym same)))

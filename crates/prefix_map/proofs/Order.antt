@@ -19,7 +19,8 @@ number (V4 a) = a
 number (V6 a) = a
 
 numbered : (a b : Addr) (o : Ordering)
-    → ordering_then (nat_cmp (family a) (family b)) (ordering_then (nat_cmp (number a) (number b)) o) ≡ ordering_then (addr_order a b) o
+    → ordering_then (nat_cmp (family a) (family b)) (ordering_then (nat_cmp (number a) (number b)) o)
+    ≡ ordering_then (addr_order a b) o
 numbered (V4 a) (V4 b) o = refl
 numbered (V4 a) (V6 b) o = refl
 numbered (V6 a) (V4 b) o = refl
@@ -29,7 +30,8 @@ pub prefix_total : IsTotalOrder prefix_order
 prefix_total =
     subst IsTotalOrder (λ i x y. numbered x.addr y.addr (nat_cmp x.len y.len) i)
     (then_total (on_total (λ (b : Block). family b.addr) nat_cmp_total)
-    (then_total (on_total (λ (b : Block). number b.addr) nat_cmp_total) (on_total (λ (b : Block). b.len) nat_cmp_total)))
+    (then_total (on_total (λ (b : Block). number b.addr) nat_cmp_total)
+    (on_total (λ (b : Block). b.len) nat_cmp_total)))
 
 pub first_tie : (o p : Ordering) → ordering_then o p ≡ Equal → o ≡ Equal
 first_tie Less p e = e
@@ -55,8 +57,12 @@ prefix_ties x y e i = record {
 
 by_order : (x y : Block) (o : Ordering) → prefix_order x y ≡ o → (x ≡ y) ⊎ (¬ (x ≡ y))
 by_order x y Equal e = inl (prefix_ties x y e)
-by_order x y Less e = inr (λ same. let tied : prefix_order x y ≡ Equal = subst (λ z. prefix_order x z ≡ Equal) same (tied_itself prefix_total x) in cc)
-by_order x y Greater e = inr (λ same. let tied : prefix_order x y ≡ Equal = subst (λ z. prefix_order x z ≡ Equal) same (tied_itself prefix_total x) in cc)
+by_order x y Less e =
+    inr (λ same. let tied : prefix_order x y
+    ≡ Equal = subst (λ z. prefix_order x z ≡ Equal) same (tied_itself prefix_total x) in cc)
+by_order x y Greater e =
+    inr (λ same. let tied : prefix_order x y
+    ≡ Equal = subst (λ z. prefix_order x z ≡ Equal) same (tied_itself prefix_total x) in cc)
 
 -- two prefixes are one or they are not
 pub same_or_not : (x y : Block) → (x ≡ y) ⊎ (¬ (x ≡ y))

@@ -1,5 +1,6 @@
 -- Lists of pairs whose keys ascend: what a look-up finds, and what comes after a key.
-use Rattle.std.proofs.Common.{◌≡◌, ◌⊎◌, inl, inr, Bool, true, false, cond, ◌&&◌, List, [], ◌∷◌, map, refl, sym, ap, subst, ◌∙◌, Option, Some, None}
+use Rattle.std.proofs.Common.{◌≡◌, ◌⊎◌, inl, inr, Bool, true, false, cond, ◌&&◌, List, [], ◌∷◌, map, refl, sym, ap}
+use Rattle.std.proofs.Common.{subst, ◌∙◌, Option, Some, None}
 use Rattle.std.specs.declared.cmp.Ordering.{Ordering}
 use Rattle.std.specs.declared.cmp.Ordering.TheVariants.{Less, Equal, Greater}
 use Rattle.std.specs.Ordering.{is_eq, is_lt, ordering_reverse}
@@ -34,7 +35,8 @@ module _ {K X : Type 0} (R : K → K → Ordering) where
   -- keys that ascend pass the test of a finite map
   pub sorted : (es : List (K × X)) → IsStrictlySortedBy R (keys_of es) → is_sorted R es ≡ true
   sorted [] h = refl
-  sorted (e ∷ es) h = rw (below e.0 es (sorted_head R e.0 (keys_of es) h)) (sorted es (sorted_tail R e.0 (keys_of es) h))
+  sorted (e ∷ es) h =
+      rw (below e.0 es (sorted_head R e.0 (keys_of es) h)) (sorted es (sorted_tail R e.0 (keys_of es) h))
 
   pub find-lookup : (q : K) (es : List (K × X)) → find R q es ≡ lookup (λ k. is_eq (R q k)) es
   find-lookup q [] = refl
@@ -44,13 +46,15 @@ module _ {K X : Type 0} (R : K → K → Ordering) where
   all_below x [] h = tt
   all_below x (e ∷ es) h = (less _ (front _ (below_all R x es) h), all_below x es (back (is_lt (R x e.0)) _ h))
 
-  pub head_below : (e : K × X) (es : List (K × X)) → is_sorted R (e ∷ es) ≡ true → AllByRecursion (λ d. R e.0 d.0 ≡ Less) es
+  pub head_below : (e : K × X) (es : List (K × X)) → is_sorted R (e ∷ es) ≡ true
+      → AllByRecursion (λ d. R e.0 d.0 ≡ Less) es
   head_below e es h = all_below e.0 es (front _ (is_sorted R es) h)
 
   pub tail_sorted : (e : K × X) (es : List (K × X)) → is_sorted R (e ∷ es) ≡ true → is_sorted R es ≡ true
   tail_sorted e es h = back (below_all R e.0 es) _ h
 
-pub all_at : {K X : Type 0} (P : K → Type 0) (es : List (K × X)) (k : K) → AllByRecursion (λ e. P e.0) es → Has (map (λ e. e.0) es) k → P k
+pub all_at : {K X : Type 0} (P : K → Type 0) (es : List (K × X)) (k : K) → AllByRecursion (λ e. P e.0) es
+    → Has (map (λ e. e.0) es) k → P k
 all_at P [] k h in_none = elim in_none [ ]
 all_at P (e ∷ es) k h (inl same) = subst P (sym same) h.0
 all_at P (e ∷ es) k h (inr later) = all_at P es k h.1 later
@@ -84,8 +88,10 @@ module _ {K X : Type 0} {R : K → K → Ordering} (o : IsTotalOrder R) where
   found (e ∷ es) k (inl same) = some_first _ _ _ (ap is_eq (subst (λ z. R k z ≡ Equal) same (tied_itself o k)))
   found (e ∷ es) k (inr later) = some_later _ _ _ (found es k later)
 
-  found_by : IsAntisymmetric R → (e : K × X) (es : List (K × X)) (k : K) (r : Ordering) → R k e.0 ≡ r → (IsSome (find R k es)
-      → Has (map (λ d. d.0) es) k) → IsSome (cond (is_eq r) (Some e.1) (find R k es)) → (k ≡ e.0) ⊎ Has (map (λ d. d.0) es) k
+  found_by : IsAntisymmetric R → (e : K × X) (es : List (K × X)) (k : K) (r : Ordering) → R k e.0 ≡ r
+      → (IsSome (find R k es)
+      → Has (map (λ d. d.0) es) k) → IsSome (cond (is_eq r) (Some e.1) (find R k es))
+      → (k ≡ e.0) ⊎ Has (map (λ d. d.0) es) k
   found_by ties e es k Less is later h = inr (later h)
   found_by ties e es k Equal is later h = inl (ties k e.0 is)
   found_by ties e es k Greater is later h = inr (later h)
@@ -96,7 +102,8 @@ module _ {K X : Type 0} {R : K → K → Ordering} (o : IsTotalOrder R) where
   only_found ties (e ∷ es) k h = found_by ties e es k (R k e.0) refl (only_found ties es k) h
 
   -- all keys of a list come after x, so the filter for those keeps it
-  pub filter_all : (x : K) (es : List (K × X)) → AllByRecursion (λ e. R x e.0 ≡ Less) es → filter (λ e. is_lt (R x e.0)) es ≡ es
+  pub filter_all : (x : K) (es : List (K × X)) → AllByRecursion (λ e. R x e.0 ≡ Less) es
+      → filter (λ e. is_lt (R x e.0)) es ≡ es
   filter_all x [] h = refl
   filter_all x (e ∷ es) h = rw h.0 (ap (λ t. e ∷ t) (filter_all x es h.1))
 
@@ -128,7 +135,8 @@ module _ {K X : Type 0} {R : K → K → Ordering} (o : IsTotalOrder R) where
       other_first _ e.1 (find R k es) (past o e.0 k behind) ∙ pair_found es k v (tail_sorted R e es h) later
 
   only_pair_by : IsAntisymmetric R → (e : K × X) (es : List (K × X)) (k : K) (v : X) (r : Ordering) → R k e.0 ≡ r
-      → (find R k es ≡ Some v → Has es (k, v)) → cond (is_eq r) (Some e.1) (find R k es) ≡ Some v → ((k, v) ≡ e) ⊎ Has es (k, v)
+      → (find R k es ≡ Some v → Has es (k, v)) → cond (is_eq r) (Some e.1) (find R k es) ≡ Some v
+      → ((k, v) ≡ e) ⊎ Has es (k, v)
   only_pair_by ties e es k v Less is later h = inr (later h)
   only_pair_by ties e es k v Equal is later h = let value : v ≡ e.1 = cc in inl (λ i. (ties k e.0 is i, value i))
   only_pair_by ties e es k v Greater is later h = inr (later h)

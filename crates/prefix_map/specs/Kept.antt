@@ -53,7 +53,8 @@ addr_code = code_by (ℕ ⊎ ℕ) (coded⊎ coded_ℕ coded_ℕ) addr_parts addr
 -- how prefixes are told apart
 abbrev pub block_code : Coded Block
 block_code =
-    code_by (Addr × ℕ) (coded× addr_code coded_ℕ) (λ b. (b.addr, b.len)) (λ p. record { addr = p.0; len = p.1 }) (λ _. refl)
+    code_by (Addr × ℕ) (coded× addr_code coded_ℕ) (λ b. (b.addr, b.len)) (λ p. record { addr = p.0; len = p.1 })
+    (λ _. refl)
 
 -- how maps are told apart
 abbrev pub map_code : {V : Type 0} → Coded V → Coded (Mapped V)

@@ -1,5 +1,6 @@
 -- Laws on the list of interfaces.
-use Rattle.std.proofs.Common.{◌≡◌, ℕ, ◌+◌, ◌<◌, ◌==◌, List, [], ◌∷◌, ◌++◌, map, take, length, slice_index, refl, ap, sym, subst, ◌∙◌, inl, inr, arith}
+use Rattle.std.proofs.Common.{◌≡◌, ℕ, ◌+◌, ◌<◌, ◌==◌, List, [], ◌∷◌, ◌++◌, map, take, length, refl, ap, sym, subst, ◌∙◌}
+use Rattle.std.proofs.Common.{inl, inr, arith}
 use Rattle.std.proofs.Math.Seq.{take-append_seam}
 use Rattle.std.specs.List.{AllByRecursion}
 use Rattle.std.proofs.lemmas.Bool.{cases_Bool}
@@ -25,25 +26,30 @@ ascending-edited edit old new is ascending =
     subst AreIncreasing (sym (ap numbers is ∙ numbers-edited edit old)) ascending
 
 -- what stands in the list once the edited rows are written back
-pub ascending-written : (edit : Edit) (old lent new rest : List Row) (n : ℕ) → lent ≡ old → new ≡ edited edit lent → n ≡ length new → IsAscending old → IsAscending (take n (new ++ rest))
+pub ascending-written : (edit : Edit) (old lent new rest : List Row) (n : ℕ) → lent ≡ old → new ≡ edited edit lent
+    → n ≡ length new → IsAscending old → IsAscending (take n (new ++ rest))
 ascending-written edit old lent new rest n same is len ascending =
     let whole : take n (new ++ rest) ≡ edited edit old =
     ap (λ k. take k (new ++ rest)) len ∙ take-append_seam new rest ∙ is ∙ ap (edited edit) same in
     ascending-edited edit old _ whole ascending
 
-AllByRecursion-push : (P : ℕ → Type 0) (ns : List ℕ) (n : ℕ) → AllByRecursion P ns → P n → AllByRecursion P (ns ++ n ∷ [])
+AllByRecursion-push : (P : ℕ → Type 0) (ns : List ℕ) (n : ℕ) → AllByRecursion P ns → P n
+    → AllByRecursion P (ns ++ n ∷ [])
 AllByRecursion-push P [] n all last = (last, tt)
 AllByRecursion-push P (m ∷ ns) n all last = (all.0, AllByRecursion-push P ns n all.1 last)
 
-AreIncreasing-push : (ns : List ℕ) (n : ℕ) → AreIncreasing ns → AllByRecursion (λ m. m < n) ns → AreIncreasing (ns ++ n ∷ [])
+AreIncreasing-push : (ns : List ℕ) (n : ℕ) → AreIncreasing ns → AllByRecursion (λ m. m < n) ns
+    → AreIncreasing (ns ++ n ∷ [])
 AreIncreasing-push [] n increasing below = (tt, tt)
 AreIncreasing-push (m ∷ ns) n increasing below =
     (AllByRecursion-push (λ o. m < o) ns n increasing.0 below.0, AreIncreasing-push ns n increasing.1 below.1)
 
 -- an interface whose number is greater than all others goes last
-pub IsAscending-push : (rows : List Row) (row : Row) → IsAscending rows → AllBelow rows row.0 → IsAscending (rows ++ row ∷ [])
+pub IsAscending-push : (rows : List Row) (row : Row) → IsAscending rows → AllBelow rows row.0
+    → IsAscending (rows ++ row ∷ [])
 IsAscending-push rows row ascending below =
-    subst AreIncreasing (sym (map-append (λ r. r.0) rows (row ∷ []))) (AreIncreasing-push (numbers rows) row.0 ascending below)
+    subst AreIncreasing (sym (map-append (λ r. r.0) rows (row ∷ [])))
+    (AreIncreasing-push (numbers rows) row.0 ascending below)
 
 AllByRecursion-further : (ns : List ℕ) (n : ℕ) → AllByRecursion (λ m. m < n) ns → AllByRecursion (λ m. m < n + 1) ns
 AllByRecursion-further [] n below = tt
@@ -57,4 +63,5 @@ pub AllBelow-push : (rows : List Row) (row : Row) → AllBelow rows row.0 → Al
 AllBelow-push rows row below =
     let P : ℕ → Type 0 = λ m. m < row.0 + 1 in
     let Q : List ℕ → Type 0 = AllByRecursion P in
-    subst Q (sym (map-append (λ r. r.0) rows (row ∷ []))) (AllByRecursion-push P (numbers rows) row.0 (AllByRecursion-further (numbers rows) row.0 below) (omega arith))
+    subst Q (sym (map-append (λ r. r.0) rows (row ∷ [])))
+    (AllByRecursion-push P (numbers rows) row.0 (AllByRecursion-further (numbers rows) row.0 below) (omega arith))

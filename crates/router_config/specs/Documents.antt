@@ -1,7 +1,9 @@
 -- What a table of a TOML document holds. Our own choice of keys and ranges.
-use Rattle.std.specs.Prelude.{ℕ, ◌&&◌, nat_le, Bool, true, false, List, [], ◌∷◌, Option, Some, None, option_map, option_and_then, is_some, pos, codes, bytes_eq, if◌then◌else◌}
+use Rattle.std.specs.Prelude.{ℕ, ◌&&◌, nat_le, Bool, true, List, [], ◌∷◌, Option, Some, None, option_and_then, is_some}
+use Rattle.std.specs.Prelude.{pos, codes, bytes_eq, if◌then◌else◌}
 use Rattle.std.specs.List.{list_all, list_any}
-use Rattle.toml.specs.Data.{Data, integer, array, table, Items, no_items, item, Members, no_members, member, get, as_str, as_table}
+use Rattle.toml.specs.Data.{Data, integer, array, table, Items, no_items, item, Members, no_members, member, get}
+use Rattle.toml.specs.Data.{as_str, as_table}
 use Rattle.router_config.specs.declared.documents.Place.{Place}
 use Rattle.router_config.specs.declared.documents.Place.TheVariants.{Top, Interface, Session}
 

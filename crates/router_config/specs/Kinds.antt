@@ -22,3 +22,7 @@ AllBelow rows number = AllByRecursion (λ other. other < number) (map (λ row. r
 -- the kind of the interface with this number; none where it is not in the list
 abbrev pub kind_in : List Row → ℕ → Option Kind
 kind_in rows number = option_map (λ row. row.1) (find (λ row. row.0 == number) rows)
+
+-- the interface with this number; none where it is not in the list
+abbrev pub iface_in : List Row → ℕ → Option ℕ
+iface_in rows number = option_map (λ row. row.0) (find (λ row. row.0 == number) rows)

@@ -27,4 +27,5 @@ role_named text = find (λ r. bytes_eq text (role_name r)) (role.Customer ∷ ro
 -- the mode with this name
 abbrev pub mode_named : List ℕ → Option Mode
 mode_named text =
-    find (λ m. bytes_eq text (mode_name m)) (mode.Off ∷ mode.Feasible ∷ mode.Loose ∷ mode.LooseNoDefault ∷ mode.EfpA ∷ mode.EfpB ∷ [])
+    find (λ m. bytes_eq text (mode_name m))
+    (mode.Off ∷ mode.Feasible ∷ mode.Loose ∷ mode.LooseNoDefault ∷ mode.EfpA ∷ mode.EfpB ∷ [])

@@ -1,5 +1,6 @@
 -- What a document configures, and which texts are configurations. Our own choice.
-use Rattle.std.specs.Prelude.{◌≡◌, ◌⊎◌, ℕ, zero, suc, List, [], ◌∷◌, ◌++◌, Option, Some, None, option_map, option_and_then, find, filter_map, IsUtf8}
+use Rattle.std.specs.Prelude.{◌≡◌, ◌⊎◌, ℕ, zero, suc, List, [], ◌∷◌, ◌++◌, Option, Some, None, option_and_then, find}
+use Rattle.std.specs.Prelude.{filter_map, IsUtf8}
 use Rattle.toml.specs.Data.{Data, Members, table}
 use Rattle.toml.specs.Parse.{parse_document}
 use Rattle.urpf_base.specs.declared.kinds.Kind.{Kind}
@@ -7,7 +8,8 @@ use Rattle.urpf_base.specs.declared.kinds.Mode.{Mode}
 use Rattle.urpf_base.specs.declared.kinds.Role.{Role}
 use Rattle.urpf_base.specs.declared.sessions.SessionConfig.{SessionConfig}
 use Rattle.router_config.specs.Kinds.{Row}
-use Rattle.router_config.specs.Rules.{first_broken, has_number, hold_of, iface_of, interfaces_of, max_of, mode_of, peer_as_of, role_of, rules, sessions_of}
+use Rattle.router_config.specs.Rules.{first_broken, has_number, hold_of, iface_of, interfaces_of, max_of, mode_of}
+use Rattle.router_config.specs.Rules.{peer_as_of, role_of, rules, sessions_of}
 use Rattle.router_config.specs.declared.faults.ConfigFault.{ConfigFault}
 use Rattle.router_config.specs.declared.faults.ConfigKind.TheVariants as kind
 
@@ -38,7 +40,8 @@ rows_below interfaces zero = []
 rows_below interfaces (suc n) = rows_below interfaces n ++ row_of n (kind_at interfaces n)
 
 abbrev pub session_with : Option ℕ → Option ℕ → Option ℕ → Option ℕ → Option SessionConfig
-session_with (Some iface) (Some peer_as) (Some hold) (Some max) = Some (record { iface = iface; peer_as = peer_as; hold = hold; max = max })
+session_with (Some iface) (Some peer_as) (Some hold) (Some max) =
+    Some (record { iface = iface; peer_as = peer_as; hold = hold; max = max })
 session_with _ _ _ _ = None
 
 -- what a session is configured with

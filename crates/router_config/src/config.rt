@@ -1,7 +1,7 @@
 //! The configuration of a router: its interfaces and its sessions.
-ghost use Rattle.std.specs.Prelude.{◌≡◌, ◌<◌, IfOk, Some, length, slice_get};
+ghost use Rattle.std.specs.Prelude.{◌≡◌, ◌<◌, IfOk, IfSome, Some, length, slice_get};
 ghost use Rattle.router_config.specs.Edits.{edited};
-ghost use Rattle.router_config.specs.Kinds.{IsAscending, kind_in};
+ghost use Rattle.router_config.specs.Kinds.{IsAscending, iface_in, kind_in};
 
 use crate::edits::Edit;
 use crate::kinds::Kinds;
@@ -37,6 +37,14 @@ impl Config {
         ensures { result ≡ kind_in self.now.interfaces id }
     {
         self.kinds.kind(id)
+    }
+
+    /// The configured interface with this number. None where there is none.
+    pub fn iface(&self, number: u32) -> Option<IfaceId>
+        ensures value { result ≡ iface_in self.now.interfaces number }
+        ensures same { IfSome result (λ id. id ≡ number) }
+    {
+        self.kinds.iface(number)
     }
 
     /// How many sessions there are.

@@ -1,4 +1,5 @@
 //! Why a configuration is refused.
+ghost use Rattle.std.specs.Prelude.{◌≡◌, Some};
 
 /// The rule that is broken.
 #[derive(Clone, Copy, Debug, PartialEq, Eq)]
@@ -48,4 +49,11 @@ pub enum ReadConfig {
     Bad(ConfigFault),
     /// Memory could not be had.
     OutOfMemory,
+}
+
+/// The fault of a rule that is broken at this place.
+pub(crate) fn broken(kind: ConfigKind, index: u32) -> Option<ConfigFault>
+    ensures { result ≡ Some (record { kind = kind; index = index }) }
+{
+    Some(ConfigFault { kind, index })
 }

@@ -13,7 +13,7 @@ ghost use Rattle.toml.specs.View.{view};
 ghost use Rattle.router_config.specs.Rules.{each, first_broken, has_number, interface_rules, is_free, mode_of, number_of, role_of};
 
 use crate::documents::{Place, has_known_keys, number_at, text_at};
-use crate::faults::{ConfigFault, ConfigKind};
+use crate::faults::{ConfigFault, ConfigKind, broken};
 use crate::names::{read_mode, read_role};
 use toml::Value;
 use urpf_base::{Mode, Role};
@@ -27,9 +27,9 @@ pub(crate) fn interfaces_fault(interfaces: &[Value]) -> Option<ConfigFault>
     ensures { result ≡ first_broken (each interface_rules [] (map view interfaces.now)) }
 {
     for index in 0..interfaces.len() {
-        let broken = interface_fault(&interfaces[..index], &interfaces[index]);
-        if broken.is_some() {
-            return broken;
+        let fault = interface_fault(&interfaces[..index], &interfaces[index]);
+        if fault.is_some() {
+            return fault;
         }
     }
     None
@@ -42,34 +42,19 @@ fn interface_fault(before: &[Value], interface: &Value) -> Option<ConfigFault>
 {
     let index = before.len() as u32;
     if !has_known_keys(Place::Interface, interface) {
-        return Some(ConfigFault {
-            kind: ConfigKind::UnknownKey,
-            index,
-        });
+        return broken(ConfigKind::UnknownKey, index);
     }
     let Some(number) = number_of(interface) else {
-        return Some(ConfigFault {
-            kind: ConfigKind::Number,
-            index,
-        });
+        return broken(ConfigKind::Number, index);
     };
     if !is_free(before, number) {
-        return Some(ConfigFault {
-            kind: ConfigKind::Repeat,
-            index,
-        });
+        return broken(ConfigKind::Repeat, index);
     }
     let Some(_) = role_of(interface) else {
-        return Some(ConfigFault {
-            kind: ConfigKind::Role,
-            index,
-        });
+        return broken(ConfigKind::Role, index);
     };
     let Some(_) = mode_of(interface) else {
-        return Some(ConfigFault {
-            kind: ConfigKind::Mode,
-            index,
-        });
+        return broken(ConfigKind::Mode, index);
     };
     None
 }

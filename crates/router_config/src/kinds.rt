@@ -1,7 +1,7 @@
 //! The interfaces of a router: a list of their numbers and kinds, that is looked up, compared and
 //! copied.
-ghost use Rattle.std.specs.Prelude.{◌≡◌, ◌↔◌, [], ◌∷◌, ◌++◌, IfOk, OnErr, OnOk, IsTrue, length};
-ghost use Rattle.router_config.specs.Kinds.{AllBelow, IsAscending, kind_in};
+ghost use Rattle.std.specs.Prelude.{◌≡◌, ◌↔◌, [], ◌∷◌, ◌++◌, IfOk, IfSome, OnErr, OnOk, IsTrue, length};
+ghost use Rattle.router_config.specs.Kinds.{AllBelow, IsAscending, iface_in, kind_in};
 ghost use Rattle.router_config.specs.Edits.{edited, edited_row};
 
 use crate::edits::Edit;
@@ -76,6 +76,14 @@ impl Kinds {
         }
     }
 
+    /// The interface with this number. None where it is not in the list.
+    pub fn iface(&self, number: u32) -> Option<IfaceId>
+        ensures value { result ≡ iface_in self.now number }
+        ensures same { IfSome result (λ id. id ≡ number) }
+    {
+        iface_among(&self.rows, number)
+    }
+
     /// Whether both are the same list.
     pub fn same(&self, other: &Kinds) -> bool
         ensures { IsTrue result ↔ (self.now ≡ other.now) }
@@ -100,6 +108,19 @@ impl Kinds {
     {
         apply_to(&mut self.rows, edit);
     }
+}
+
+/// The interface with this number. None where it is not in the list.
+fn iface_among(rows: &[(IfaceId, Kind)], number: u32) -> Option<IfaceId>
+    ensures value { result ≡ iface_in rows.now number }
+    ensures same { IfSome result (λ id. id ≡ number) }
+{
+    for row in rows {
+        if row.0.number() as u32 == number {
+            return Some(row.0);
+        }
+    }
+    None
 }
 
 /// Whether both are the same list.

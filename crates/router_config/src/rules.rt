@@ -1,10 +1,10 @@
 //! The rules of a configuration: a document comes in, and the first rule that is broken goes out.
-ghost use Rattle.std.specs.Prelude.{◌≡◌, Some, map, option_map};
+ghost use Rattle.std.specs.Prelude.{◌≡◌, map, option_map};
 ghost use Rattle.toml.specs.View.{view};
 ghost use Rattle.router_config.specs.Rules.{first_broken, interfaces_of, interfaces_rules, rules, sessions_at, sessions_rules};
 
 use crate::documents::{Place, as_tables, has_known_keys, tables_at};
-use crate::faults::{ConfigFault, ConfigKind};
+use crate::faults::{ConfigFault, ConfigKind, broken};
 use crate::interfaces::interfaces_fault;
 use crate::sessions::sessions_fault;
 use toml::Value;
@@ -20,12 +20,12 @@ pub(crate) fn first_fault(document: &Value) -> Option<ConfigFault>
     ensures { result ≡ first_broken (rules (view document.now)) }
 {
     if !has_known_keys(Place::Top, document) {
-        return on_whole(ConfigKind::UnknownKey);
+        return broken(ConfigKind::UnknownKey, 0);
     }
     let interfaces = interfaces_of(document);
-    let broken = fault_of_interfaces(interfaces);
-    if broken.is_some() {
-        return broken;
+    let fault = fault_of_interfaces(interfaces);
+    if fault.is_some() {
+        return fault;
     }
     fault_of_sessions(interfaces, document)
 }
@@ -35,10 +35,10 @@ fn fault_of_interfaces(interfaces: &[Value]) -> Option<ConfigFault>
     ensures { result ≡ first_broken (interfaces_rules (map view interfaces.now)) }
 {
     if interfaces.is_empty() {
-        return on_whole(ConfigKind::Interfaces);
+        return broken(ConfigKind::Interfaces, 0);
     }
     if interfaces.len() > INTERFACES_MAX {
-        return on_whole(ConfigKind::TooManyInterfaces);
+        return broken(ConfigKind::TooManyInterfaces, 0);
     }
     interfaces_fault(interfaces)
 }
@@ -48,19 +48,12 @@ fn fault_of_sessions(interfaces: &[Value], document: &Value) -> Option<ConfigFau
     ensures { result ≡ first_broken (sessions_rules (map view interfaces.now) (view document.now)) }
 {
     let Some(sessions) = sessions_at(document) else {
-        return on_whole(ConfigKind::Sessions);
+        return broken(ConfigKind::Sessions, 0);
     };
     if sessions.len() > SESSIONS_MAX {
-        return on_whole(ConfigKind::TooManySessions);
+        return broken(ConfigKind::TooManySessions, 0);
     }
     sessions_fault(interfaces, sessions)
-}
-
-/// The fault of a rule on the whole document.
-fn on_whole(kind: ConfigKind) -> Option<ConfigFault>
-    ensures { result ≡ Some (record { kind = kind; index = 0 }) }
-{
-    Some(ConfigFault { kind, index: 0 })
 }
 
 /// The interfaces of a document: none where it has no array of tables there.

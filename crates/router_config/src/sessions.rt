@@ -13,7 +13,7 @@ ghost use Rattle.toml.specs.View.{view};
 ghost use Rattle.router_config.specs.Rules.{as_hold, each, first_broken, hold_of, iface_of, is_hold, max_of, peer_as_of, session_rules};
 
 use crate::documents::{Place, as_number, has_known_keys, number_at};
-use crate::faults::{ConfigFault, ConfigKind};
+use crate::faults::{ConfigFault, ConfigKind, broken};
 use crate::interfaces::{NUMBER_MAX, is_free};
 use toml::Value;
 
@@ -36,9 +36,9 @@ pub(crate) fn sessions_fault(interfaces: &[Value], sessions: &[Value]) -> Option
         (map view sessions.now)) }
 {
     for index in 0..sessions.len() {
-        let broken = session_fault(interfaces, index as u32, &sessions[index]);
-        if broken.is_some() {
-            return broken;
+        let fault = session_fault(interfaces, index as u32, &sessions[index]);
+        if fault.is_some() {
+            return fault;
         }
     }
     None
@@ -49,34 +49,19 @@ fn session_fault(interfaces: &[Value], index: u32, session: &Value) -> Option<Co
     ensures { result ≡ first_broken (session_rules (map view interfaces.now) index (view session.now)) }
 {
     if !has_known_keys(Place::Session, session) {
-        return Some(ConfigFault {
-            kind: ConfigKind::UnknownKey,
-            index,
-        });
+        return broken(ConfigKind::UnknownKey, index);
     }
     let Some(_) = iface_of(interfaces, session) else {
-        return Some(ConfigFault {
-            kind: ConfigKind::Interface,
-            index,
-        });
+        return broken(ConfigKind::Interface, index);
     };
     let Some(_) = peer_as_of(session) else {
-        return Some(ConfigFault {
-            kind: ConfigKind::PeerAs,
-            index,
-        });
+        return broken(ConfigKind::PeerAs, index);
     };
     let Some(_) = hold_of(session) else {
-        return Some(ConfigFault {
-            kind: ConfigKind::Hold,
-            index,
-        });
+        return broken(ConfigKind::Hold, index);
     };
     let Some(_) = max_of(session) else {
-        return Some(ConfigFault {
-            kind: ConfigKind::MaxPrefixes,
-            index,
-        });
+        return broken(ConfigKind::MaxPrefixes, index);
     };
     None
 }

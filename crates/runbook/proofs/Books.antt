@@ -116,7 +116,7 @@ same_row line r s taken is =
     let said : r.1 ≡ s.1 = cc in
     λ i. (number i, said i)
 
-same_rows : (lines : List Line) (rows others : List Row) → AllZip IsTaken lines rows → AllZip IsLine lines others
+pub same_rows : (lines : List Line) (rows others : List Row) → AllZip IsTaken lines rows → AllZip IsLine lines others
     → rows ≡ others
 same_rows [] [] [] all is = refl
 same_rows [] [] (o ∷ others) all is = absurd is
@@ -130,7 +130,7 @@ pub one_book : (text : List ℕ) (number : ℕ) (rows others : List Row) → Rea
     → rows ≡ others
 one_book text number rows others r is = same_rows (numbered text) rows others (all_taken text number rows r) is
 
-no_refusal : (before behind : List Line) (line : Line) (rows : List Row) (kind : BookKind)
+pub no_refusal : (before behind : List Line) (line : Line) (rows : List Row) (kind : BookKind)
     → AllZip IsTaken (before ++ line ∷ behind) rows → IsJudged line.1 (Err kind) → ⊥
 no_refusal [] behind line [] kind all refused = absurd all
 no_refusal [] behind line (r ∷ rows) kind all refused = let outcome = all.0.comes.only (Err kind) refused in cc
@@ -203,7 +203,8 @@ tail e = cc
 head : {x y : Line} {xs ys : List Line} → x ∷ xs ≡ y ∷ ys → x ≡ y
 head e = cc
 
-same_refusal : (before before' behind behind' : List Line) (x y : Line) (rows rows' : List Row) (kind kind' : BookKind)
+pub same_refusal : (before before' behind behind' : List Line) (x y : Line) (rows rows' : List Row)
+    (kind kind' : BookKind)
     → before ++ x ∷ behind ≡ before' ++ y ∷ behind' → AllZip IsTaken before rows → AllZip IsLine before' rows'
     → ComesTo x.1 (Err kind) → IsJudged y.1 (Err kind')
     → (y.0 ≡ x.0) × (kind ≡ kind')

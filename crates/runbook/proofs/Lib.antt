@@ -1,4 +1,5 @@
 pub mod Cuts
 pub mod Sayings
 pub mod Books
+pub mod BookLaws
 pub mod Faults

@@ -8,10 +8,12 @@
 
 mod book;
 mod cutting;
+mod laws;
 mod lines;
 mod reading;
 mod saying;
 mod words;
 
 pub use book::{Book, BookFault, ReadBook, read_book};
+pub use laws::one_book;
 pub use lines::{BookKind, BookLine};

@@ -8,7 +8,7 @@ use std::process::ExitCode;
 use std::rt::{Env, Files};
 use std::{env, io};
 use urpf_base::{Line, write_all};
-use urpf_cli::{Status, check_one, exit_code, offline_feed, put_status};
+use urpf_cli::{Status, asks_offline, check_one, exit_code, offline_feed, put_status};
 
 fn main(rt: HostRuntime) -> ExitCode {
     let status = run(&rt);
@@ -16,14 +16,14 @@ fn main(rt: HostRuntime) -> ExitCode {
     ExitCode::from(exit_code(&status))
 }
 
-/// Runs the command that the first word names. Other words fit no form, as `check` says.
+/// Runs the command that the words ask for. Words that fit no form are refused by `check_one`.
 fn run<R: AllocGlobal + Env + Files + Print>(rt: &R) -> Status {
     let words = match words(rt) {
         Ok(words) => words,
         Err(status) => return status,
     };
     let mut out = OutSink::new(io::writer(rt));
-    if word(&words, 0) == "offline" {
+    if asks_offline(&words) {
         let mut book = FileSource::new(rt, word(&words, 1));
         let mut feed = TraceFeed::new(FileSource::new(rt, word(&words, 2)));
         return offline_feed(rt.alloc(), &words, &mut book, &mut feed, &mut out);

@@ -1,5 +1,6 @@
 -- A field of values one after the other, read from its front: what is left spells values exactly where the field does.
-use Rattle.std.proofs.Common.{◌≡◌, ℕ, zero, suc, ◌<◌, Bool, false, ◌==◌, ◌↔◌, IsTrue, List, [], ◌∷◌, length, Option, Some, None, refl, sym, arith}
+use Rattle.std.proofs.Common.{◌≡◌, ℕ, zero, suc, ◌<◌, Bool, false, ◌==◌, ◌↔◌, IsTrue, List, [], ◌∷◌, length, Option}
+use Rattle.std.proofs.Common.{Some, None, refl, sym, arith}
 use Rattle.std.specs.Option.{option_map}
 use Rattle.urpf_base.specs.Series.{SpellsAll, ReadsFront}
 use Rattle.urpf_base.proofs.Series.{spells-more, spells-less, spells_nothing}
@@ -13,7 +14,8 @@ pub alike_whole : {X : Type 0} (Spells : List ℕ → X → Type 0) (field : Lis
 alike_whole Spells field = record { more = λ s. s; less = λ s. s }
 
 -- one value taken off the rest
-pub alike_further : {X : Type 0} {Spells : List ℕ → X → Type 0} {front : List ℕ → Option (X × List ℕ)} {field text : List ℕ} → ReadsFront Spells front → SpellsAlike Spells field text
+pub alike_further : {X : Type 0} {Spells : List ℕ → X → Type 0} {front : List ℕ → Option (X × List ℕ)}
+    {field text : List ℕ} → ReadsFront Spells front → SpellsAlike Spells field text
     → (rest : List ℕ) (x : X) → front text ≡ Some (x, rest) → SpellsAlike Spells field rest
 alike_further {X} {Spells} {front} {field} {text} reads alike rest x found = record {
   more = λ s. alike.more (x ∷ s.0, spells-more front reads text rest x s.0 found s.1);
@@ -24,12 +26,14 @@ alike_further {X} {Spells} {front} {field} {text} reads alike rest x found = rec
     fewer s = let l = spells-less front reads text rest x s.0 found s.1 in (l.0, l.2)
 
 -- nothing left: the field spells values
-pub alike_end : {X : Type 0} {Spells : List ℕ → X → Type 0} {field : List ℕ} (rest : List ℕ) → SpellsAlike Spells field rest → length rest ≡ 0 → (values : List X) × SpellsAll Spells field values
+pub alike_end : {X : Type 0} {Spells : List ℕ → X → Type 0} {field : List ℕ} (rest : List ℕ)
+    → SpellsAlike Spells field rest → length rest ≡ 0 → (values : List X) × SpellsAll Spells field values
 alike_end [] alike none = alike.more ([], refl)
 alike_end (n ∷ rest) alike none = absurd (omega (arith, none))
 
 -- something left that begins with no value: the field spells none
-pub alike_stuck : {X : Type 0} {Spells : List ℕ → X → Type 0} {front : List ℕ → Option (X × List ℕ)} {field text : List ℕ} → ReadsFront Spells front → SpellsAlike Spells field text
+pub alike_stuck : {X : Type 0} {Spells : List ℕ → X → Type 0} {front : List ℕ → Option (X × List ℕ)}
+    {field text : List ℕ} → ReadsFront Spells front → SpellsAlike Spells field text
     → front text ≡ None → 0 < length text → (values : List X) × SpellsAll Spells field values → ⊥
 alike_stuck {front = front} {text = text} reads alike none some s =
     let l = alike.less s in

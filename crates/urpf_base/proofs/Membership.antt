@@ -22,7 +22,8 @@ same_parts a b same long =
 pub same_block : (a b : Block) → (a ≡ b) ⊎ (a ≢ b)
 same_block a b =
     elim (same_addr a.addr b.addr) [
-      | inl same ↦ elim (same_number a.len b.len) [ inl long ↦ inl (same_parts a b same long) | inr other ↦ inr (λ e. other (ap (λ x. x.len) e)) ]
+      | inl same ↦ elim (same_number a.len b.len)
+          [ inl long ↦ inl (same_parts a b same long) | inr other ↦ inr (λ e. other (ap (λ x. x.len) e)) ]
       | inr other ↦ inr (λ e. other (ap (λ x. x.addr) e))
     ]
 
@@ -31,5 +32,9 @@ has_or_not [] p = inr (λ never. never)
 has_or_not (q ∷ qs) p =
     elim (same_block p q) [
       | inl same ↦ inl (inl same)
-      | inr other ↦ elim (has_or_not qs p) [ inl later ↦ inl (inr later) | inr never ↦ inr (λ has. elim has [ inl same ↦ other same | inr later ↦ never later ]) ]
+      | inr other ↦ elim (has_or_not qs p) [
+        | inl later ↦ inl (inr later)
+        | inr never ↦ inr
+            (λ has. elim has [ inl same ↦ other same | inr later ↦ never later ])
+      ]
     ]

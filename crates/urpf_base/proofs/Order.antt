@@ -7,7 +7,9 @@ use Rattle.urpf_base.specs.declared.address.Addr.{Addr}
 use Rattle.urpf_base.specs.declared.address.Addr.TheVariants.{V4, V6}
 use Rattle.urpf_base.specs.contracts.prefixes.PrefixOrd.TheImpl as prefix_ord
 
-by_parts : (a b : Addr) (m n : ℕ) → (prefix_ord.ghosts).cmp (record { addr = a; len = m }) (record { addr = b; len = n }) ≡ ordering_then (addr_order a b) (nat_cmp m n)
+by_parts : (a b : Addr) (m n : ℕ)
+    → (prefix_ord.ghosts).cmp (record { addr = a; len = m }) (record { addr = b; len = n })
+    ≡ ordering_then (addr_order a b) (nat_cmp m n)
 by_parts (V4 a) (V4 b) m n = refl
 by_parts (V4 a) (V6 b) m n = refl
 by_parts (V6 a) (V4 b) m n = refl

@@ -46,6 +46,7 @@ pub record IsBlock (addr : Addr) (len : ℕ) : Type 0 where
   pub within : len ≤ width_of addr
   pub zeros : cleared_addr len addr ≡ addr
 
--- the prefix covers the address: one family, and the first bits of both agree (RFC 8704, section 3.1; RFC 3704, section 2.3)
+-- the prefix covers the address: one family, and the first bits of both agree (RFC 8704, section 3.1; RFC 3704, section
+-- 2.3)
 abbrev pub Covers : Block → Addr → Type 0
 Covers prefix addr = AgreeUpTo prefix.len prefix.addr addr

@@ -18,4 +18,5 @@ IsSilent prefix update = (Has update.withdrawn prefix → ⊥) × (Has update.an
 abbrev pub HasRoute : List RouteUpdate → Block → Option ℕ → Type 0
 HasRoute [] prefix origin = ⊥
 HasRoute (u ∷ later) prefix origin =
-    HasRoute later prefix origin ⊎ (Has u.announced prefix × (origin ≡ u.origin) × AllByRecursion (IsSilent prefix) later)
+    HasRoute later prefix origin
+    ⊎ (Has u.announced prefix × (origin ≡ u.origin) × AllByRecursion (IsSilent prefix) later)

@@ -30,21 +30,27 @@ none_or_some None none is = cc
 none_or_some (Some v) none is = cc
 
 -- a prefix is in the table exactly where the effects reach it
-pub there_reaches : (us : List Effect) (routes : Routes) → HoldsAll us routes → (p : Block) → IsSome (routes_at routes p) → Reaches us p
+pub there_reaches : (us : List Effect) (routes : Routes) → HoldsAll us routes → (p : Block)
+    → IsSome (routes_at routes p) → Reaches us p
 there_reaches us routes held p is =
     let found = some_value (routes_at routes p) is in (found.0, (held p found.0).0 found.1)
 
-pub reaches_there : (us : List Effect) (routes : Routes) → HoldsAll us routes → (p : Block) → Reaches us p → IsSome (routes_at routes p)
+pub reaches_there : (us : List Effect) (routes : Routes) → HoldsAll us routes → (p : Block) → Reaches us p
+    → IsSome (routes_at routes p)
 reaches_there us routes held p reach = is_some_from (routes_at routes p) reach.0 ((held p reach.0).1 reach.1)
 
-gone_never : (us : List Effect) (routes : Routes) → HoldsAll us routes → (p : Block) → IsNone (routes_at routes p) → Reaches us p → ⊥
+gone_never : (us : List Effect) (routes : Routes) → HoldsAll us routes → (p : Block) → IsNone (routes_at routes p)
+    → Reaches us p → ⊥
 gone_never us routes held p none reach = none_or_some (routes_at routes p) none (reaches_there us routes held p reach)
 
-never_gone : (us : List Effect) (routes : Routes) → HoldsAll us routes → (p : Block) → (Reaches us p → ⊥) → IsNone (routes_at routes p)
-never_gone us routes held p never = is_none_unless (routes_at routes p) (λ is. never (there_reaches us routes held p is))
+never_gone : (us : List Effect) (routes : Routes) → HoldsAll us routes → (p : Block) → (Reaches us p → ⊥)
+    → IsNone (routes_at routes p)
+never_gone us routes held p never =
+    is_none_unless (routes_at routes p) (λ is. never (there_reaches us routes held p is))
 
 -- the difference of two tables is that of the effects that they hold
-pub changed_from : (us vs : List Effect) (old new : Routes) (cells : ℕ) → HoldsAll us old → HoldsAll vs new → IsDifference old new cells → AreChanged us vs cells
+pub changed_from : (us vs : List Effect) (old new : Routes) (cells : ℕ) → HoldsAll us old → HoldsAll vs new
+    → IsDifference old new cells → AreChanged us vs cells
 changed_from us vs old new cells held_old held_new difference = record {
   changed = difference.changed;
   distinct = difference.distinct;
@@ -62,7 +68,9 @@ changed_from us vs old new cells held_old held_new difference = record {
 }
 
 -- the verdict of a table is that of the effects that it holds
-pub judges_by : (us : List Effect) (routes : Routes) (addr : Addr) (verdict : Verdict) → HoldsAll us routes → (verdict ≡ Pass) ↔ ((p : Block) × Has (prefixes_of routes) p × Covers p addr) → (verdict ≡ Pass) ⊎ (verdict ≡ Drop) → Judges us addr verdict
+pub judges_by : (us : List Effect) (routes : Routes) (addr : Addr) (verdict : Verdict) → HoldsAll us routes
+    → (verdict ≡ Pass) ↔ ((p : Block) × Has (prefixes_of routes) p × Covers p addr)
+    → (verdict ≡ Pass) ⊎ (verdict ≡ Drop) → Judges us addr verdict
 judges_by us routes addr Pass held pass either =
     let covered = pass.0 refl in
     (covered.0, there_reaches us routes held covered.0 ((has_held routes covered.0).0 covered.1), covered.2)

@@ -12,7 +12,8 @@ use Rattle.urpf_cli.specs.declared.check.TheConstants.{STREAM_OCTETS}
 use Rattle.urpf_cli.specs.declared.session.SessionFault.{SessionFault}
 use Rattle.urpf_cli.specs.declared.session.SessionFault.TheVariants as memory
 
--- the line for this source over this stream: the messages, the prefixes that are left, each once, and whether one covers the source
+-- the line for this source over this stream: the messages, the prefixes that are left, each once, and whether one
+-- covers the source
 pub record IsCheckLine (stream : List ℕ) (source : Addr) (line : List ℕ) : Type 0 where
   pub said : List (Option RouteUpdate)
   pub rest : List ℕ
@@ -35,9 +36,11 @@ pub data CheckEnd : Type 0 where
 abbrev pub ComesTo : List (List ℕ) → List ℕ → CheckEnd → Type 0
 ComesTo words stream misused = (source : Addr) → AreCheckWords words source → ⊥
 ComesTo words stream too_long = ((source : Addr) × AreCheckWords words source) × (STREAM_OCTETS < length stream)
-ComesTo words stream (unreadable fault) = ((source : Addr) × AreCheckWords words source) × IsShortEnough stream × HasFault stream fault
+ComesTo words stream (unreadable fault) =
+    ((source : Addr) × AreCheckWords words source) × IsShortEnough stream × HasFault stream fault
 ComesTo words stream judged =
-    ((source : Addr) × AreCheckWords words source) × IsShortEnough stream × ((said : List (Option RouteUpdate)) × (rest : List ℕ) × IsRead stream said rest)
+    ((source : Addr) × AreCheckWords words source) × IsShortEnough stream
+    × ((said : List (Option RouteUpdate)) × (rest : List ℕ) × IsRead stream said rest)
 
 -- the sink took the line of these words over this stream
 pub record WritesLine (words : List (List ℕ)) (stream : List ℕ) (old new : Option (List ℕ)) : Type 0 where

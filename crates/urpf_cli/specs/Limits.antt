@@ -24,7 +24,8 @@ pub record FillsItems (lines : List BookLine) (events : List Event) : Type 0 whe
   pub full : ITEM_LIMIT ≤ length items
   pub asks : AsksPast lines ITEM_LIMIT
 
--- the events have as many octets as a feed may give, and fewer items than a session may take; the lines ask for more than these
+-- the events have as many octets as a feed may give, and fewer items than a session may take; the lines ask for more
+-- than these
 pub record FillsOctets (lines : List BookLine) (events : List Event) : Type 0 where
   pub items : List Item
   pub are : AreItems events items

@@ -23,7 +23,8 @@ abbrev pub IsRefused : List (List ℕ) → List ℕ → Refusal → Type 0
 IsRefused words text Misused = AreOfflineWords words → ⊥
 IsRefused words text ReadFault = ⊥
 IsRefused words text TooLong = AreOfflineWords words × (BOOK_OCTETS < length text)
-IsRefused words text (BadBook fault) = AreOfflineWords words × (length text ≤ BOOK_OCTETS) × IsFirstFault text fault.line fault.kind
+IsRefused words text (BadBook fault) =
+    AreOfflineWords words × (length text ≤ BOOK_OCTETS) × IsFirstFault text fault.line fault.kind
 IsRefused words text OutOfMemory = ⊥
 
 -- a refusal that words and text decide: no failed read, and no want of memory
@@ -45,9 +46,18 @@ pub record RanText (words : List (List ℕ)) (text : List ℕ) (all : List Event
   pub ran : RanBook run (lines_in rows) result left old new
 
 -- the sink took a front of the run of these words and this text over these events
-pub record TookRunFront (words : List (List ℕ)) (text : List ℕ) (all : List Event) (old new : Option (List ℕ)) : Type 0 where
+pub record TookRunFront (words : List (List ℕ)) (text : List ℕ) (all : List Event) (old new : Option (List ℕ)) : Type 0
+  where
+    pub rows : List (ℕ × BookLine)
+    pub opens : Opens words text rows
+    pub run : Run
+    pub same : run.all ≡ all
+    pub took : TookFront (IsRunText run.inputs (lines_in rows)) old new
+
+-- what a run of this text over these events writes, where nothing stops it
+pub record IsOutput (text : List ℕ) (events : List Event) (output : List ℕ) : Type 0 where
   pub rows : List (ℕ × BookLine)
-  pub opens : Opens words text rows
+  pub book : IsBook text rows
   pub run : Run
-  pub same : run.all ≡ all
-  pub took : TookFront (IsRunText run.inputs (lines_in rows)) old new
+  pub same : run.all ≡ events
+  pub is : IsRunText run.inputs (lines_in rows) output

@@ -1,5 +1,6 @@
 -- The text of a run over the feed of one session on interface 0. Our own choice.
-use Rattle.std.specs.Prelude.{◌≡◌, ◌⊎◌, ℕ, ◌+◌, min, nat_lt, Bool, true, false, not, ◌&&◌, ◌||◌, if◌then◌else◌, List, [], ◌∷◌, ◌++◌, length, take, Option, Some, None, ◌↔◌}
+use Rattle.std.specs.Prelude.{◌≡◌, ◌⊎◌, ℕ, ◌+◌, min, nat_lt, Bool, true, false, not, ◌&&◌, ◌||◌, if◌then◌else◌, List}
+use Rattle.std.specs.Prelude.{[], ◌∷◌, ◌++◌, length, take, Option, Some, None, ◌↔◌}
 use Rattle.std.specs.List.{concat}
 use Rattle.urpf_base.specs.declared.address.Addr.{Addr}
 use Rattle.urpf_base.specs.declared.sessions.SessionConfig.{SessionConfig}
@@ -31,7 +32,8 @@ pub record Inputs : Type 0 where
 abbrev pub HasEffects : Inputs → ℕ → List Effect → Type 0
 HasEffects inputs count effects = (last : State) × Runs session_0 (take count inputs.items) effects last
 
--- how far a run has come: the items taken, whether the end of the feed was met, the last publication, and the items taken at it
+-- how far a run has come: the items taken, whether the end of the feed was met, the last publication, and the items
+-- taken at it
 pub record Position : Type 0 where
   pub taken : ℕ
   pub ended : Bool
@@ -46,7 +48,12 @@ opening = record { taken = 0; ended = false; number = 0; marked = 0 }
 abbrev pub pulled : ℕ → Option ℕ → Position → Position
 pulled total None at = record { taken = total; ended = true; number = at.number; marked = at.marked }
 pulled total (Some count) at =
-    record { taken = min (at.taken + count) total; ended = at.ended || nat_lt total (at.taken + count); number = at.number; marked = at.marked }
+    record {
+      taken = min (at.taken + count) total;
+      ended = at.ended || nat_lt total (at.taken + count);
+      number = at.number;
+      marked = at.marked;
+    }
 
 -- a publication has the next number, and marks the items taken
 abbrev pub published : Position → Position
@@ -67,7 +74,8 @@ position_after total (line ∷ lines) at = position_after total lines (next_posi
 pub record AreChanged (old new : List Effect) (cells : ℕ) : Type 0 where
   pub changed : List Block
   pub distinct : AreDistinct changed
-  pub each : (p : Block) → Has changed p ↔ (((Reaches old p → ⊥) × Reaches new p) ⊎ (Reaches old p × (Reaches new p → ⊥)))
+  pub each : (p : Block)
+      → Has changed p ↔ (((Reaches old p → ⊥) × Reaches new p) ⊎ (Reaches old p × (Reaches new p → ⊥)))
   pub counted : cells ≡ length changed
 
 -- a source passes exactly where a prefix that is reached covers it
@@ -124,7 +132,8 @@ abbrev pub GiveAll : Inputs → Position → List BookLine → List (List ℕ) �
 GiveAll inputs at [] [] = Unit {0}
 GiveAll inputs at [] (text ∷ texts) = ⊥
 GiveAll inputs at (line ∷ lines) [] = ⊥
-GiveAll inputs at (line ∷ lines) (text ∷ texts) = Gives inputs at line text × GiveAll inputs (next_position (length inputs.items) line at) lines texts
+GiveAll inputs at (line ∷ lines) (text ∷ texts) =
+    Gives inputs at line text × GiveAll inputs (next_position (length inputs.items) line at) lines texts
 
 -- the run line and the line of publication 0: one interface, one session, no pairs
 abbrev pub head_text : List ℕ
@@ -134,4 +143,5 @@ head_text = run_line 1 1 0 0 ++ publish_line 0 0 0 (0 ∷ [])
 pub record IsRunText (inputs : Inputs) (lines : List BookLine) (text : List ℕ) : Type 0 where
   pub texts : List (List ℕ)
   pub given : GiveAll inputs opening lines texts
-  pub parts : text ≡ head_text ++ (concat texts ++ done_line (position_after (length inputs.items) lines opening).number 0)
+  pub parts : text ≡ head_text
+      ++ (concat texts ++ done_line (position_after (length inputs.items) lines opening).number 0)

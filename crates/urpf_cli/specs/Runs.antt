@@ -7,14 +7,17 @@ use Rattle.session_fsm.specs.declared.items.Effect.{Effect}
 use Rattle.runbook.specs.declared.lines.BookLine.{BookLine}
 use Rattle.control_core.specs.declared.limits.Limits.{Limits}
 use Rattle.control_core.specs.declared.limits.RunFault.{RunFault}
-use Rattle.control_core.specs.declared.limits.RunFault.TheVariants.{ReadFault, WriteFault, ItemLimit, OctetLimit, OutOfMemory}
+use Rattle.control_core.specs.declared.limits.RunFault.TheVariants.{ReadFault, WriteFault, ItemLimit, OctetLimit}
+use Rattle.control_core.specs.declared.limits.RunFault.TheVariants.{OutOfMemory}
 use Rattle.control_core.specs.declared.limits.TheConstants.{ITEM_LIMIT, OCTET_LIMIT}
 use Rattle.control_core.specs.Effects.{HoldsAll}
 use Rattle.control_core.specs.History.{StandsFor}
 use Rattle.control_core.specs.Items.{AreItems, IsRest, SameButCuts, octet_count}
 use Rattle.control_core.specs.States.{ControlState}
-use Rattle.urpf_cli.specs.Limits.{LineFills, PullFillsItems, PullFillsOctets, OfGiven, FillsItems, FillsOctets, FillsNone}
-use Rattle.urpf_cli.specs.RunText.{Inputs, HasEffects, Position, opening, position_after, next_position, Gives, GiveAll, IsRunText, session_0}
+use Rattle.urpf_cli.specs.Limits.{LineFills, PullFillsItems, PullFillsOctets, OfGiven, FillsItems, FillsOctets}
+use Rattle.urpf_cli.specs.Limits.{FillsNone}
+use Rattle.urpf_cli.specs.RunText.{Inputs, HasEffects, Position, opening, position_after, next_position, Gives, GiveAll}
+use Rattle.urpf_cli.specs.RunText.{IsRunText, session_0}
 
 -- the limits of a run are the largest
 abbrev pub run_limits : Limits
@@ -84,8 +87,10 @@ Reaches Items Octets (ItemLimit session) = Items
 Reaches Items Octets (OctetLimit session) = Octets
 Reaches Items Octets OutOfMemory = Unit {0}
 
--- what a line of the runbook comes to: its text is taken and the run is at the next position, or it stopped with a front of its text
-abbrev pub RanLine : Run → Position → BookLine → Result (Unit {0}) RunFault → ControlState → Option (List Event) → Option (List ℕ) → Option (List ℕ) → Type 0
+-- what a line of the runbook comes to: its text is taken and the run is at the next position, or it stopped with a
+-- front of its text
+abbrev pub RanLine : Run → Position → BookLine → Result (Unit {0}) RunFault → ControlState → Option (List Event)
+    → Option (List ℕ) → Option (List ℕ) → Type 0
 RanLine run at line (Ok done) control left old new =
     TookAll (Gives run.inputs at line) old new × IsAt run (next_position (total run) line at) control left
 RanLine run at line (Err fault) control left old new =
@@ -98,19 +103,26 @@ AreTexts inputs lines text = (texts : List (List ℕ)) × GiveAll inputs opening
 
 -- why the lines of a runbook stop at a limit: their pulls ask past what the feed gave
 abbrev pub StopsAtLimit : List Event → List BookLine → Option (List Event) → RunFault → Type 0
-StopsAtLimit all lines left fault = Reaches (OfGiven (FillsItems lines) all left) (OfGiven (FillsOctets lines) all left) fault
+StopsAtLimit all lines left fault =
+    Reaches (OfGiven (FillsItems lines) all left) (OfGiven (FillsOctets lines) all left) fault
 
--- what all lines come to: their texts are taken and the run is at its last position, or they stopped with a front of their texts
-abbrev pub RanLines : Run → List BookLine → Result (Unit {0}) RunFault → ControlState → Option (List Event) → Option (List ℕ) → Option (List ℕ) → Type 0
+-- what all lines come to: their texts are taken and the run is at its last position, or they stopped with a front of
+-- their texts
+abbrev pub RanLines : Run → List BookLine → Result (Unit {0}) RunFault → ControlState → Option (List Event)
+    → Option (List ℕ) → Option (List ℕ) → Type 0
 RanLines run lines (Ok done) control left old new =
     TookAll (AreTexts run.inputs lines) old new × IsAt run (position_after (total run) lines opening) control left
 RanLines run lines (Err fault) control left old new =
     TookFront (AreTexts run.inputs lines) old new × StopsAtLimit run.all lines left fault
 
--- what the run of a book comes to: its text is taken and no limit that it asks past is reached, or it stopped with a front of its text
-abbrev pub RanBook : Run → List BookLine → Result (Unit {0}) RunFault → Option (List Event) → Option (List ℕ) → Option (List ℕ) → Type 0
-RanBook run lines (Ok done) left old new = TookAll (IsRunText run.inputs lines) old new × OfGiven (FillsNone lines) run.all left
-RanBook run lines (Err fault) left old new = TookFront (IsRunText run.inputs lines) old new × StopsAtLimit run.all lines left fault
+-- what the run of a book comes to: its text is taken and no limit that it asks past is reached, or it stopped with a
+-- front of its text
+abbrev pub RanBook : Run → List BookLine → Result (Unit {0}) RunFault → Option (List Event) → Option (List ℕ)
+    → Option (List ℕ) → Type 0
+RanBook run lines (Ok done) left old new =
+    TookAll (IsRunText run.inputs lines) old new × OfGiven (FillsNone lines) run.all left
+RanBook run lines (Err fault) left old new =
+    TookFront (IsRunText run.inputs lines) old new × StopsAtLimit run.all lines left fault
 
 -- the lines of a runbook without their numbers
 abbrev pub lines_in : List (ℕ × BookLine) → List BookLine

@@ -60,7 +60,8 @@ pub record IsFaultAt (stream : List ℕ) (subcode place : ℕ) : Type 0 where
   pub say : SayAll messages said
   pub counted : place ≡ length messages + 1
 
--- the message at this place, counted from 1, stops the reading, for a reason in its kind and its body, and all messages before it can be read
+-- the message at this place, counted from 1, stops the reading, for a reason in its kind and its body, and all messages
+-- before it can be read
 pub record StopsAt (stream : List ℕ) (place : ℕ) (Reason : MsgKind → List ℕ → Type 0) : Type 0 where
   pub before : List (List ℕ)
   pub message : List ℕ

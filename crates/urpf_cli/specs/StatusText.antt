@@ -6,7 +6,9 @@ use Rattle.urpf_cli.specs.declared.status.Object.{Object}
 use Rattle.urpf_cli.specs.declared.status.Object.TheVariants.{Book, Stream}
 use Rattle.urpf_cli.specs.declared.status.Object.TheVariants as named
 use Rattle.urpf_cli.specs.declared.status.Status.{Status}
-use Rattle.urpf_cli.specs.declared.status.Status.TheVariants.{Done, Usage, BadBook, TooLong, ReadFault, WriteFault, ItemLimit, OctetLimit, BadSession, Unsupported, OutOfMemory}
+use Rattle.urpf_cli.specs.declared.status.Status.TheVariants.{Done, Usage, BadBook, TooLong, ReadFault, WriteFault}
+use Rattle.urpf_cli.specs.declared.status.Status.TheVariants.{ItemLimit, OctetLimit, BadSession, Unsupported}
+use Rattle.urpf_cli.specs.declared.status.Status.TheVariants.{OutOfMemory}
 
 -- what an object is called
 abbrev pub object_text : Object → List ℕ
@@ -23,14 +25,16 @@ kind_text Iface = codes "Iface"
 -- what a status says; a run that is done says nothing
 abbrev pub status_text : Status → List ℕ
 status_text Done = []
-status_text Usage = codes "usage: check SESSION SOURCE | offline CONFIG BOOK PAIRS S... | live CONFIG BOOK PAIRS S... : P..."
+status_text Usage =
+    codes "usage: check SESSION SOURCE | offline CONFIG BOOK PAIRS S... | live CONFIG BOOK PAIRS S... : P..."
 status_text (BadBook line kind) = codes "book line " ++ decimal line ++ codes " " ++ kind_text kind
 status_text (TooLong object) = object_text object ++ codes " too long"
 status_text (ReadFault object) = codes "read fault on " ++ object_text object
 status_text WriteFault = codes "write fault"
 status_text (ItemLimit session) = codes "session " ++ decimal session ++ codes " at item limit"
 status_text (OctetLimit session) = codes "session " ++ decimal session ++ codes " at octet limit"
-status_text (BadSession code sub place) = codes "message " ++ decimal place ++ codes " fault " ++ decimal code ++ codes " " ++ decimal sub
+status_text (BadSession code sub place) =
+    codes "message " ++ decimal place ++ codes " fault " ++ decimal code ++ codes " " ++ decimal sub
 status_text (Unsupported place) = codes "message " ++ decimal place ++ codes " not supported"
 status_text OutOfMemory = codes "out of memory"
 

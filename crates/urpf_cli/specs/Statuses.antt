@@ -9,10 +9,13 @@ use Rattle.urpf_cli.specs.declared.opening.Refusal.TheVariants as opening
 use Rattle.urpf_cli.specs.Runs.{NamesSession}
 use Rattle.urpf_cli.specs.declared.session.SessionFault.{SessionFault}
 use Rattle.urpf_cli.specs.declared.session.SessionFault.TheVariants as stream
-use Rattle.urpf_cli.specs.declared.session.TheConstants.{MESSAGE_HEADER_ERROR, UPDATE_MESSAGE_ERROR}
+use Rattle.bgp_update.specs.declared.subcodes.TheConstants.{UPDATE_MESSAGE_ERROR}
+use Rattle.bgp_wire.specs.declared.header.TheConstants.{MESSAGE_HEADER_ERROR}
 use Rattle.urpf_cli.specs.declared.status.Object.TheVariants.{Book, Stream, Session}
 use Rattle.urpf_cli.specs.declared.status.Status.{Status}
-use Rattle.urpf_cli.specs.declared.status.Status.TheVariants.{Done, Usage, BadBook, TooLong, ReadFault, WriteFault, ItemLimit, OctetLimit, BadSession, Unsupported, OutOfMemory}
+use Rattle.urpf_cli.specs.declared.status.Status.TheVariants.{Done, Usage, BadBook, TooLong, ReadFault, WriteFault}
+use Rattle.urpf_cli.specs.declared.status.Status.TheVariants.{ItemLimit, OctetLimit, BadSession, Unsupported}
+use Rattle.urpf_cli.specs.declared.status.Status.TheVariants.{OutOfMemory}
 
 -- a message that cannot be read: error code 1 is of a header, 3 of an UPDATE (RFC 4271, section 4.5)
 abbrev pub status_of_stream : SessionFault → Status

@@ -11,11 +11,12 @@ ghost use Rattle.urpf_cli.specs.Session.{updates_of};
 ghost use Rattle.urpf_cli.specs.Statuses.{IsCheckStatus, status_of_check, status_of_stream};
 ghost use Rattle.urpf_cli.specs.Words.{AreCheckWords};
 
-use crate::session::{MESSAGE_HEADER_ERROR, SessionFault, UPDATE_MESSAGE_ERROR, read_session};
+use crate::session::{SessionFault, read_session};
 use crate::status::{Object, Status};
 use crate::words::{Command, read_command};
 use adj_rib::AdjRib;
-use bgp_update::UpdateView;
+use bgp_update::{UPDATE_MESSAGE_ERROR, UpdateView};
+use bgp_wire::MESSAGE_HEADER_ERROR;
 use control_core::apply_item;
 use report_text::put_one;
 use std::alloc::Global;

@@ -13,9 +13,9 @@ mod status_text;
 mod words;
 
 pub use check::{STREAM_OCTETS, check_one};
-pub use laws::{assigned_numbers, one_run_text};
+pub use laws::{assigned_numbers, one_output, one_run_text};
 pub use offline::offline_feed;
 pub use opening::BOOK_OCTETS;
 pub use status::{Object, Status};
 pub use status_text::{exit_code, put_status};
-pub use words::{Command, read_command};
+pub use words::{Command, asks_offline, read_command};

@@ -8,17 +8,8 @@ ghost use Rattle.urpf_cli.specs.Session.{FailsBy, IsBadUpdateAt, IsFaultAt, IsUn
 
 use as_path::Width;
 use bgp_update::{UpdateFault, UpdateView, read_update};
-use bgp_wire::{FrameState, Framer, MsgKind};
+use bgp_wire::{FrameState, Framer, HEADER_OCTETS, MsgKind};
 use std::alloc::Global;
-
-/// Message Header Error (RFC 4271, section 4.5).
-pub const MESSAGE_HEADER_ERROR: u8 = 1;
-
-/// UPDATE Message Error (RFC 4271, section 4.5).
-pub const UPDATE_MESSAGE_ERROR: u8 = 3;
-
-/// The octets of a header (RFC 4271, section 4.1).
-const HEADER_OCTETS: usize = 19;
 
 /// What a stream holds. It borrows the octets.
 #[derive(Drop)]

@@ -6,4 +6,5 @@ pub returns-clause-some : goal.returns-clause-some
 returns-clause-some c = λ events. (items_after None events, are_items None events)
 
 pub returns-clause-only : goal.returns-clause-only
-returns-clause-only c = λ events a b first second. only_items None events a first ∙ sym (only_items None events b second)
+returns-clause-only c =
+    λ events a b first second. only_items None events a first ∙ sym (only_items None events b second)

@@ -10,7 +10,8 @@ use Rattle.control_core.proofs.pulling.pull_items.Given as goal
 abbrev pub invariant-loop-count : goal.invariant-loop-count
 invariant-loop-count g l = record {
   so_far : (events : List Event) (effects : List Effect) → StandsFor events effects (peer_of l.initial.peering)
-      → SoFar l.initial.peering.number events effects (g.F.Feed.left l.initial.feed) (g.F.Feed.left l.feed) (g.K.Sink.held l.initial.out) (g.K.Sink.held l.out) (peer_of l.peering);
+      → SoFar l.initial.peering.number events effects (g.F.Feed.left l.initial.feed) (g.F.Feed.left l.feed)
+      (g.K.Sink.held l.initial.out) (g.K.Sink.held l.out) (peer_of l.peering);
   unmet : l.peering.ended ≡ false;
   begun : l.begun ≡ l.initial.peering.session.items;
   most : TakesAtMost l.count (peer_of l.initial.peering) (peer_of l.peering);

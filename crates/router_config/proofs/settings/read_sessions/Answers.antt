@@ -8,7 +8,9 @@ pub loop-session-preserved-in_default : goal.loop-session-preserved-in_default
 loop-session-preserved-in_default c =
     let l = c.loop-session in
     let gives = session_of (map view c.args.interfaces.now) in
-    l.invariant ∙ filter_map-none gives c.args.sessions.now l.session-index c.session-item.result c.loop-session-test.true c.session-item.is c.in_default.ensures
+    l.invariant
+    ∙ filter_map-none gives c.args.sessions.now l.session-index c.session-item.result c.loop-session-test.true
+    c.session-item.is c.in_default.ensures
 
 pub loop-session-preserved : goal.loop-session-preserved
 loop-session-preserved c =
@@ -16,4 +18,5 @@ loop-session-preserved c =
     let gives = session_of (map view c.args.interfaces.now) in
     c.in-Ok.ensures.items
     ∙ ap (λ read. read ++ c.in-Some.session ∷ []) l.invariant
-    ∙ filter_map-some gives c.args.sessions.now l.session-index c.session-item.result c.in-Some.session c.loop-session-test.true c.session-item.is c.in-Some.ensures
+    ∙ filter_map-some gives c.args.sessions.now l.session-index c.session-item.result c.in-Some.session
+    c.loop-session-test.true c.session-item.is c.in-Some.ensures

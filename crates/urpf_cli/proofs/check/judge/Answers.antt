@@ -19,6 +19,13 @@ returns-clause-ok c =
       left = has_left session.items.items routes (rw c.deref.ensures.value at c.in_default.ensures);
       passes = c.any_covers-passes.result;
       verdict = c.any_covers-passes.ensures;
-      text = line_of c.args.source.now c.any_covers-passes.result c.len-messages.result (length leaves.read.messages) c.len-prefixes.result (length (prefixes_of routes)) session.rest (length leaves.octets) c.put_one.new.to
-          (omega (arith, c.len-messages.ensures, session.items.ok.0, say-length leaves.read.messages session.items.items leaves.read.say)) c.len-prefixes.ensures.count leaves.left c.put_one.ensures;
+      text = line_of c.args.source.now c.any_covers-passes.result c.len-messages.result (length leaves.read.messages)
+          c.len-prefixes.result (length (prefixes_of routes)) session.rest (length leaves.octets) c.put_one.new.to
+          (omega (
+            arith,
+            c.len-messages.ensures,
+            session.items.ok.0,
+            say-length leaves.read.messages session.items.items leaves.read.say,
+          )) c.len-prefixes.ensures.count
+          leaves.left c.put_one.ensures;
     }

@@ -12,7 +12,9 @@ returns c =
     let words : AreOfflineWords (map string_bytes c.args.words.now) = record {
       book = book;
       trace = trace;
-      parts = ap (map string_bytes) (three_items c.args.words.now c.command-item.result c._book-item.result c._trace-item.result c.in-len3.len_at_least c.in-len3.len_below c.command-item.is c._book-item.is c._trace-item.is)
+      parts = ap (map string_bytes)
+          (three_items c.args.words.now c.command-item.result c._book-item.result c._trace-item.result
+          c.in-len3.len_at_least c.in-len3.len_below c.command-item.is c._book-item.is c._trace-item.is)
           ∙ ap (λ (w : List ℕ). w ∷ book ∷ trace ∷ []) command;
     } in
     (λ is. words, λ fit. refl)

@@ -11,7 +11,9 @@ returns-clause-found c =
     record {
       session = session;
       text = source;
-      parts = ap (map string_bytes) (three_items c.args.words.now c.command-item.result c._session-item.result c.source-item.result c.in-len3.len_at_least c.in-len3.len_below c.command-item.is c._session-item.is c.source-item.is)
+      parts = ap (map string_bytes)
+          (three_items c.args.words.now c.command-item.result c._session-item.result c.source-item.result
+          c.in-len3.len_at_least c.in-len3.len_below c.command-item.is c._session-item.is c.source-item.is)
           ∙ ap (λ (w : List ℕ). w ∷ session ∷ source ∷ []) command;
       spelled = rw c.as_bytes.ensures.value at c.in-Some.ensures.found;
     }

@@ -5,4 +5,6 @@ use Rattle.adj_rib.specs.Routes.{pairs_of}
 use Rattle.adj_rib.proofs.rib.AdjRib.len.Goals as goal
 
 pub returns-clause-count : goal.returns-clause-count
-returns-clause-count c = c.len.ensures.count ∙ ap len c.self.view_is ∙ len-entries c.args.self.now ∙ sym (length-map (pairs_of c.args.self.now) (λ e. e.0))
+returns-clause-count c =
+    c.len.ensures.count ∙ ap len c.self.view_is ∙ len-entries c.args.self.now
+    ∙ sym (length-map (pairs_of c.args.self.now) (λ e. e.0))

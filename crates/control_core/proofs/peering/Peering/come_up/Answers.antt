@@ -4,5 +4,7 @@ use Rattle.control_core.proofs.peering.Peering.come_up.Goals as goal
 
 pub returns-clause-took : goal.returns-clause-took
 returns-clause-took c = λ events effects stands memory.
-    took_up events effects c.args.self.now _ c.take_item.result c.answer.result stands c.requires.short c.requires.none (record { config = c.take_item.ensures.config; items = c.take_item.ensures.items; octets = refl }) c.begin.ensures.framer c.begin.ensures.waiting c.begin.ensures.receiving
+    took_up events effects c.args.self.now _ c.take_item.result c.answer.result stands c.requires.short c.requires.none
+    (record { config = c.take_item.ensures.config; items = c.take_item.ensures.items; octets = refl })
+    c.begin.ensures.framer c.begin.ensures.waiting c.begin.ensures.receiving
     c.take_item.ensures.took c.answer.ensures memory

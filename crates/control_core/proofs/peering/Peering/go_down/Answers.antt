@@ -4,5 +4,8 @@ use Rattle.control_core.proofs.peering.Peering.go_down.Goals as goal
 
 pub returns-clause-took : goal.returns-clause-took
 returns-clause-took c = λ events effects stands memory.
-    took_down events effects c.args.self.now _ c.take_item.result c.answer.result stands c.requires.short c.requires.none (record { config = c.take_item.ensures.config; items = c.take_item.ensures.items; octets = refl }) c.stop.ensures.framer c.stop.ensures.waiting c.stop.ensures.receiving
+    took_down events effects c.args.self.now _ c.take_item.result c.answer.result stands c.requires.short
+    c.requires.none
+    (record { config = c.take_item.ensures.config; items = c.take_item.ensures.items; octets = refl })
+    c.stop.ensures.framer c.stop.ensures.waiting c.stop.ensures.receiving
     c.take_item.ensures.took c.answer.ensures memory

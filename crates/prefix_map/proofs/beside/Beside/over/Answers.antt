@@ -7,4 +7,6 @@ use Rattle.prefix_map.proofs.beside.Beside.over.Goals as goal
 
 pub invariant_of-result : goal.invariant_of-result
 invariant_of-result g c =
-    subst (λ l. is_sorted prefix_order l ≡ true) (sym (led c.next-2.result c.pairs-right.result c.next-2.new.self c.next-2.ensures.steps ∙ c.pairs-right.ensures.list)) (entries_ascend c.args.right.now)
+    subst (λ l. is_sorted prefix_order l ≡ true)
+    (sym (led c.next-2.result c.pairs-right.result c.next-2.new.self c.next-2.ensures.steps
+    ∙ c.pairs-right.ensures.list)) (entries_ascend c.args.right.now)

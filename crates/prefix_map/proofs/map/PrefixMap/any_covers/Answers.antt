@@ -9,14 +9,20 @@ pub returns-then-is_some-clause-covers : goal.returns-then-is_some-clause-covers
 returns-then-is_some-clause-covers g c =
     let len = c.loop-len.len in
     let addr = c.args.addr.now in
-    let made : (len ≤ width_of addr) × (c.unwrap-prefix.result ≡ block_of len addr) = subst (λ r. SomeIff r (len ≤ width_of addr) (block_of len addr)) c.unwrap-prefix.ensures c.new.ensures in
+    let made : (len ≤ width_of addr)
+    × (c.unwrap-prefix.result ≡ block_of len addr) =
+    subst (λ r. SomeIff r (len ≤ width_of addr) (block_of len addr)) c.unwrap-prefix.ensures c.new.ensures in
     let told : IsSome c.ask.result = sym c.is_some.ensures ∙ c.if-is_some.true in
-    let there : IsSome (get c.args.self.now c.unwrap-prefix.result) = subst IsSome c.ask.ensures.value told in
-    (λ _. one_covers c.args.self.now addr len made.0 (subst (λ (b : Block). IsSome (get c.args.self.now b)) made.1 there), λ _. refl)
+    let there : IsSome (get c.args.self.now c.unwrap-prefix.result) = subst IsSome c.ask.ensures.value told in (
+      λ _. one_covers c.args.self.now addr len made.0
+          (subst (λ (b : Block). IsSome (get c.args.self.now b)) made.1 there),
+      λ _. refl,
+    )
 
 pub returns-clause-covers : goal.returns-clause-covers
 returns-clause-covers g c = (
   λ yes. absurd cc,
-  λ (p, has, covers). absurd (none_cover _ _ c.args.self.now c.args.addr.now c.self.invariant c.self.view_is c.bits_of-len-end.ensures.fits
+  λ (p, has, covers). absurd
+      (none_cover _ _ c.args.self.now c.args.addr.now c.self.invariant c.self.view_is c.bits_of-len-end.ensures.fits
       (λ k within. c.loop-len.invariant.none k (omega (arith, within))) p has covers),
 )

@@ -5,4 +5,5 @@ pub returns-clause-gone : goal.returns-clause-gone
 returns-clause-gone c = clear_same _ _ _ c.number.ensures.value c.number.ensures.below
 
 pub returns-clause-others : goal.returns-clause-others
-returns-clause-others c = rw (← c.self.view_is) (clear_other _ _ _ c.self.invariant c.number.ensures.value c.number.ensures.below)
+returns-clause-others c =
+    rw (← c.self.view_is) (clear_other _ _ _ c.self.invariant c.number.ensures.value c.number.ensures.below)

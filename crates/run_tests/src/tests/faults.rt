@@ -88,54 +88,78 @@ fn a_feed_that_fails_leaves_a_front_of_the_text(rt: HostRuntime) -> Result<(), F
     Ok(())
 }
 
-/// Publishes after the events of `FULL`, and then asks for more.
-const FULL_AND_MORE: &str = "pull 0 4\npublish\ncheck 0 198.51.100.9\npull 0 all\npublish\n";
+/// A trace that breaks: the events before the break, the octets of the break, and what comes of a
+/// run over it.
+#[derive(Clone, Copy)]
+struct Broken {
+    name: &'static str,
+    events: &'static [Event<'static>],
+    broken: &'static [u8],
+    book: &'static str,
+    status: Status,
+    text: &'static str,
+}
+
+/// A run that publishes before the break, and then asks for more.
+const BROKEN_CODE: Broken = Broken {
+    name: "a first octet that is none of the four",
+    events: &FULL,
+    broken: &[5],
+    book: "pull 0 4\npublish\ncheck 0 198.51.100.9\npull 0 all\npublish\n",
+    status: Status::ReadFault(Object::Session(0)),
+    text: "publish 1 edits 0 cells 1 items 4\ncheck 0 198.51.100.9 pass 1\n",
+};
+
+const BROKEN: [Broken; 7] = [
+    BROKEN_CODE,
+    Broken {
+        name: "a length of 0",
+        broken: &[2, 0, 0],
+        ..BROKEN_CODE
+    },
+    Broken {
+        name: "an end within a length",
+        broken: &[2, 0],
+        ..BROKEN_CODE
+    },
+    Broken {
+        name: "an end within octets",
+        broken: &[2, 0, 19, 0xFF],
+        ..BROKEN_CODE
+    },
+    Broken {
+        name: "an end within seconds",
+        broken: &[4, 0, 0, 0],
+        ..BROKEN_CODE
+    },
+    Broken {
+        name: "a break behind a reset, which has its line",
+        broken: &[3, 0],
+        book: ALL_AT_ONCE,
+        text: "reset 0 item 5 closed\n",
+        ..BROKEN_CODE
+    },
+    Broken {
+        name: "a break that nobody asks for",
+        events: &[Event::Up],
+        book: "pull 0 1\n",
+        status: Status::Done,
+        text: "done publications 0 packets 0\n",
+        ..BROKEN_CODE
+    },
+];
 
 #[test]
 fn a_broken_trace_stops_the_run_where_it_breaks(rt: HostRuntime) -> Result<(), Fail> {
     let alloc = rt.alloc();
-    let front = "publish 1 edits 0 cells 1 items 4\ncheck 0 198.51.100.9 pass 1\n";
-    let rows: [(&str, &[u8]); 5] = [
-        ("a first octet that is none of the four", &[5]),
-        ("a length of 0", &[2, 0, 0]),
-        ("an end within a length", &[2, 0]),
-        ("an end within octets", &[2, 0, 19, 0xFF]),
-        ("an end within seconds", &[4, 0, 0, 0]),
-    ];
-    for (name, broken) in rows {
-        let mut octets = trace(alloc, &FULL)?;
-        octets.extend_from_slice(broken)?;
+    for row in &BROKEN {
+        let mut octets = trace(alloc, row.events)?;
+        octets.extend_from_slice(row.broken)?;
         let mut feed = trace_feed(alloc, &octets)?;
-        let (status, text) = offline(alloc, FULL_AND_MORE, &mut feed, &[])?;
-        let wanted = format!(in alloc; "{HEAD}{front}")?;
-        assert_eq!(rt; status, Status::ReadFault(Object::Session(0)), "of {name}");
-        assert_eq!(rt; text.as_slice(), wanted.as_bytes(), "of {name}");
+        let (status, text) = offline(alloc, row.book, &mut feed, &[])?;
+        let wanted = format!(in alloc; "{HEAD}{}", row.text)?;
+        assert_eq!(rt; status, row.status, "of {}", row.name);
+        assert_eq!(rt; text.as_slice(), wanted.as_bytes(), "of {}", row.name);
     }
-    Ok(())
-}
-
-#[test]
-fn a_trace_that_breaks_behind_a_reset_has_its_line(rt: HostRuntime) -> Result<(), Fail> {
-    let alloc = rt.alloc();
-    let mut octets = trace(alloc, &FULL)?;
-    octets.extend_from_slice(&[3, 0])?;
-    let mut feed = trace_feed(alloc, &octets)?;
-    let (status, text) = offline(alloc, ALL_AT_ONCE, &mut feed, &[])?;
-    let wanted = format!(in alloc; "{HEAD}reset 0 item 5 closed\n")?;
-    assert_eq!(rt; status, Status::ReadFault(Object::Session(0)));
-    assert_eq!(rt; text.as_slice(), wanted.as_bytes());
-    Ok(())
-}
-
-#[test]
-fn a_broken_end_that_nobody_asks_for_is_not_read(rt: HostRuntime) -> Result<(), Fail> {
-    let alloc = rt.alloc();
-    let mut octets = trace(alloc, &[Event::Up])?;
-    octets.push(5)?;
-    let mut feed = trace_feed(alloc, &octets)?;
-    let (status, text) = offline(alloc, "pull 0 1\n", &mut feed, &[])?;
-    let wanted = format!(in alloc; "{HEAD}done publications 0 packets 0\n")?;
-    assert_eq!(rt; status, Status::Done);
-    assert_eq!(rt; text.as_slice(), wanted.as_bytes());
     Ok(())
 }

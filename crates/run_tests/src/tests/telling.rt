@@ -5,7 +5,8 @@ use std::process::Abort;
 use std::test::Fail;
 use urpf_base::{Addr, Line};
 use urpf_cli::{
-    Command, Object, Status, assigned_numbers, exit_code, one_run_text, put_status, read_command,
+    Command, Object, Status, asks_offline, assigned_numbers, exit_code, one_run_text, put_status,
+    read_command,
 };
 
 /// Statuses, the line of each on standard error, and the number that the program ends with.
@@ -126,6 +127,8 @@ fn words_ask_for_a_command_or_fit_none(rt: HostRuntime) -> Result<(), Fail> {
     for (line, wanted) in COMMANDS {
         let words = words(rt.alloc(), line)?;
         assert_eq!(rt; read_command(&words), wanted, "of {words:?}");
+        let offline = wanted == Some(Command::Offline);
+        assert_eq!(rt; asks_offline(&words), offline, "of {words:?}");
     }
     Ok(())
 }

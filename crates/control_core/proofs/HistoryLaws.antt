@@ -16,7 +16,7 @@ use Rattle.adj_rib.specs.Routes.{Routes}
 use Rattle.session_fsm.specs.declared.items.Effect.{Effect}
 use Rattle.session_fsm.specs.declared.items.Item.TheVariants as fsm
 use Rattle.session_fsm.specs.declared.states.State.{State}
-use Rattle.session_fsm.specs.Table.{Outcome, Standing, Step}
+use Rattle.session_fsm.specs.Table.{Outcome, SessionState, Step}
 use Rattle.control_core.specs.States.{PeerState}
 use Rattle.control_core.specs.Items.{Item, message, bad_header, Connection, connection_after, connection_at_end}
 use Rattle.control_core.specs.Items.{AreItemsOf, AreItems, octet_count}
@@ -45,7 +45,8 @@ runs_one_more config before state (first ∷ items) item effects last outcome ru
 )
 
 -- a message is taken by its kind and its body
-pub takes_message : (old new : Standing) (whole : List ℕ) (kind : MsgKind) (body : Bor (List ℕ)) (before : List Effect)
+pub takes_message : (old new : SessionState) (whole : List ℕ) (kind : MsgKind) (body : Bor (List ℕ))
+    (before : List Effect)
     (routes : Routes) (reset : Option ResetCause)
     → kind ≡ kind_of (type_field whole) → body.now ≡ drop 19 whole
     → (row : TookRow old (fsm.Message kind body) before new routes reset)

@@ -14,7 +14,7 @@ use Rattle.session_fsm.specs.declared.items.Effect.{Effect}
 use Rattle.session_fsm.specs.declared.items.Effect.TheVariants.{Nothing, Advanced, Reset, Changes}
 use Rattle.session_fsm.specs.declared.items.Item.{Item}
 use Rattle.session_fsm.specs.declared.states.State.TheVariants.{Idle}
-use Rattle.session_fsm.specs.Table.{Outcome, Standing, Step, ended}
+use Rattle.session_fsm.specs.Table.{Outcome, SessionState, Step, ended}
 use Rattle.control_core.specs.Effects.{HoldsSoMany, HoldsAll}
 use Rattle.control_core.specs.Table.{Applies}
 use Rattle.control_core.specs.Runs.{Limited}
@@ -29,7 +29,7 @@ pub is_above : (maximum count : ℕ) → maximum < count → nat_lt maximum coun
 is_above maximum count over = grind (arith, nat_tests)
 
 -- an UPDATE that leaves no more prefixes than the maximum
-pub changed_within : (old : Standing) (u : RouteUpdate) (first second : Routes) (count : ℕ) → Applies u first second
+pub changed_within : (old : SessionState) (u : RouteUpdate) (first second : Routes) (count : ℕ) → Applies u first second
     → count ≡ length (prefixes_of second) → count ≤ old.config.max
     → (before : List Effect) → HoldsAll before first → Changed old u before old second None
 changed_within old u first second count applies is within before holds =
@@ -48,7 +48,8 @@ changed_within old u first second count applies is within before holds =
     }
 
 -- an UPDATE that leaves more ends the session
-pub changed_over : (old new : Standing) (u : RouteUpdate) (first second third : Routes) (count : ℕ) (cause : ResetCause)
+pub changed_over : (old new : SessionState) (u : RouteUpdate) (first second third : Routes) (count : ℕ)
+    (cause : ResetCause)
     → Applies u first second → count ≡ length (prefixes_of second) → old.config.max < count
     → new ≡ record old { state = Idle } → cause ≡ Fault CEASE MAXIMUM_PREFIXES_REACHED
     → ((p : Block) → routes_at third p ≡ None)
@@ -66,13 +67,13 @@ changed_over old new u first second third count cause applies is over is_new is_
         sym (ap choose (is_above old.config.max count over)),
       );
       came = record {
-        state = ap (λ (s : Standing). s.state) is_new;
+        state = ap (λ (s : SessionState). s.state) is_new;
         holds = holds_after_reset before (Fault CEASE MAXIMUM_PREFIXES_REACHED) third none;
         told = ap (λ c. Some c) is_cause;
       };
     }
 
-pub took_nothing : (old new : Standing) (item : Item) (routes : Routes)
+pub took_nothing : (old new : SessionState) (item : Item) (routes : Routes)
     → Step old.config old.state item (new.state, Nothing)
     → (before : List Effect) → HoldsAll before routes → TookRow old item before new routes None
 took_nothing old new item routes step before holds = record {
@@ -83,7 +84,7 @@ took_nothing old new item routes step before holds = record {
   came = record { state = refl; holds = holds_after_nothing before routes holds; told = refl };
 }
 
-pub took_advance : (old new : Standing) (item : Item) (routes : Routes)
+pub took_advance : (old new : SessionState) (item : Item) (routes : Routes)
     → Step old.config old.state item (new.state, Advanced)
     → (before : List Effect) → HoldsAll before routes → TookRow old item before new routes None
 took_advance old new item routes step before holds = record {
@@ -94,7 +95,7 @@ took_advance old new item routes step before holds = record {
   came = record { state = refl; holds = holds_after_advance before routes holds; told = refl };
 }
 
-pub took_reset : (old new : Standing) (item : Item) (routes : Routes) (cause : ResetCause)
+pub took_reset : (old new : SessionState) (item : Item) (routes : Routes) (cause : ResetCause)
     → Step old.config old.state item (new.state, Reset cause) → ((p : Block) → routes_at routes p ≡ None)
     → (before : List Effect) → TookRow old item before new routes (Some cause)
 took_reset old new item routes cause step none before = record {
@@ -106,7 +107,8 @@ took_reset old new item routes cause step none before = record {
 }
 
 -- an UPDATE took the session into the state in which it came to pass
-pub took_change : (old mid new : Standing) (item : Item) (u : RouteUpdate) (routes : Routes) (reset : Option ResetCause)
+pub took_change : (old mid new : SessionState) (item : Item) (u : RouteUpdate) (routes : Routes)
+    (reset : Option ResetCause)
     → mid.config ≡ old.config → Step old.config old.state item (mid.state, Changes u)
     → (before : List Effect) → Changed mid u before new routes reset → TookRow old item before new routes reset
 took_change old mid new item u routes reset same step before changed = record {

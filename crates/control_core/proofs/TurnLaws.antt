@@ -15,7 +15,7 @@ use Rattle.feed_io.specs.Events.{Event, up, octets, down, elapsed}
 use Rattle.feed_io.specs.declared.feeds.FeedEvent.TheVariants as feed
 use Rattle.session_fsm.specs.declared.items.Effect.{Effect}
 use Rattle.session_fsm.specs.declared.items.Item.TheVariants as fsm
-use Rattle.session_fsm.specs.Table.{Standing}
+use Rattle.session_fsm.specs.Table.{SessionState}
 use Rattle.control_core.specs.declared.limits.RunFault.{RunFault}
 use Rattle.control_core.specs.declared.limits.RunFault.TheVariants.{ReadFault, WriteFault, ItemLimit, OctetLimit}
 use Rattle.control_core.specs.declared.limits.RunFault.TheVariants.{OutOfMemory}
@@ -313,8 +313,8 @@ stands_with_octets events effects piece old new stands short none session rib co
       took = stands.took;
       pending = brought connection (octets piece);
       items = items_one_more events (octets piece) stands.took (subst (AreItems events) took stands.items);
-      runs = subst (λ (s : Standing). Runs s.config stands.took effects s.state) (sym session) stands.runs;
-      counted = ap (λ (s : Standing). s.items) session ∙ stands.counted;
+      runs = subst (λ (s : SessionState). Runs s.config stands.took effects s.state) (sym session) stands.runs;
+      counted = ap (λ (s : SessionState). s.items) session ∙ stands.counted;
       routes = subst (HoldsAll effects) (sym rib) stands.routes;
       connection =
           subst (λ (s : Connection). HoldsConnection new.reassembly.receiving s (held_octets new.reassembly)
@@ -398,8 +398,8 @@ stands_alike events effects old new stands session rib count same receiving =
       took = stands.took;
       pending = stands.pending;
       items = stands.items;
-      runs = subst (λ (s : Standing). Runs s.config stands.took effects s.state) (sym session) stands.runs;
-      counted = ap (λ (s : Standing). s.items) session ∙ stands.counted;
+      runs = subst (λ (s : SessionState). Runs s.config stands.took effects s.state) (sym session) stands.runs;
+      counted = ap (λ (s : SessionState). s.items) session ∙ stands.counted;
       routes = subst (HoldsAll effects) (sym rib) stands.routes;
       connection =
           subst (λ (b : Bool). HoldsConnection b connection (new.held) stands.pending) (sym receiving)

@@ -1,7 +1,7 @@
 -- A session and a control, as contracts see them (RFC 4271, sections 3.2 and 8).
 use Rattle.std.specs.Prelude.{ℕ, Bool, List}
 use Rattle.adj_rib.specs.Routes.{Routes}
-use Rattle.session_fsm.specs.Table.{Standing}
+use Rattle.session_fsm.specs.Table.{SessionState}
 use Rattle.control_core.specs.declared.limits.Limits.{Limits}
 
 -- a session: its number, its configuration with its state and the items that it took, its Adj-RIB-In, the octets that
@@ -9,7 +9,7 @@ use Rattle.control_core.specs.declared.limits.Limits.{Limits}
 -- holds, whether more octets belong to its connection, how many its feed gave, and whether that came to its end
 pub record PeerState : Type 0 where
   pub number : ℕ
-  pub session : Standing
+  pub session : SessionState
   pub routes : Routes
   pub held : List ℕ
   pub receiving : Bool

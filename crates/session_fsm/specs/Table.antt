@@ -110,7 +110,7 @@ abbrev pub Resets : SessionConfig → State → Item → ResetCause → Type 0
 Resets config state item cause = (next : State) × Step config state item (next, Reset cause)
 
 -- a session: its configuration, its state, and how many items it took
-pub record Standing : Type 0 where
+pub record SessionState : Type 0 where
   pub config : SessionConfig
   pub state : State
   pub items : ℕ

@@ -23,9 +23,9 @@ pub struct Session {
 }
 
 impl Model for Session {
-    ghost use Rattle.session_fsm.specs.Table.{Standing};
+    ghost use Rattle.session_fsm.specs.Table.{SessionState};
 
-    ghost Value = { Standing };
+    ghost Value = { SessionState };
 
     ghost view = { λ s. record { config = s.config; state = s.state; items = s.items } };
 }

@@ -1,11 +1,11 @@
 use Rattle.std.proofs.Common.{ap, subst}
-use Rattle.session_fsm.specs.Table.{Standing, Step, Outcome}
+use Rattle.session_fsm.specs.Table.{SessionState, Step, Outcome}
 use Rattle.session_fsm.proofs.StepLaws.{one_outcome}
 use Rattle.session_fsm.proofs.machine.Session.step.Goals as goal
 
 pub returns-clause-row : goal.returns-clause-row
 returns-clause-row c =
-    subst (λ (s : Standing). Step s.config s.state c.args.item c.row-next.result) c.self.view_is c.row-next.ensures
+    subst (λ (s : SessionState). Step s.config s.state c.args.item c.row-next.result) c.self.view_is c.row-next.ensures
 
 pub returns-clause-only : goal.returns-clause-only
 returns-clause-only c outcome step =

@@ -1,36 +1,47 @@
 //! `check` over worked streams: the lines, and the first message that cannot be read.
-use crate::tests::events::joined;
+use crate::tests::events::{joined, sink, source};
 use crate::tests::runs::words;
-use feed_io::{MemSink, MemSource, SureSink, SureSource};
+use feed_io::{SureSink, SureSource};
 use message_octets::{
     ANNOUNCE, ANNOUNCE_IPV6, BROKEN_MARKER, COMMUNITIES, END_OF_RIB, END_OF_RIB_IPV6, HEADER_OF_18,
     KEEPALIVE, MARKER, NO_ORIGIN, NOTIFICATION, OPEN, ROUTE_REFRESH, TWO_PREFIXES, WITHDRAW,
     WITHDRAW_AND_ANNOUNCE,
 };
-use std::alloc::Global;
-use std::test::Fail;
+use std::process::Abort;
 use urpf_cli::{Object, STREAM_OCTETS, Status, check_one};
 
-/// The status of `check session SOURCE` over the stream, and what it writes. These reads and writes
+/// A `check` of an address over a stream of these parts, and what comes of it. These reads and writes
 /// fail, by their numbers from 1.
-fn check(
-    alloc: Global,
-    stream: &[u8],
-    source: &str,
-    reads: &[u64],
-    writes: &[u64],
-) -> Result<(Status, Vec<u8>), Fail> {
-    let words = words(alloc, &["check", "session", source])?;
-    let mut session = MemSource::new(
-        Vec::from_slice(alloc, stream)?,
-        Vec::from_slice(alloc, reads)?,
-    );
-    let mut out = MemSink::new(
-        Vec::with_capacity(alloc, 8192)?,
-        Vec::from_slice(alloc, writes)?,
-    );
-    let status = check_one(alloc, &words, &mut session, &mut out);
-    Ok((status, Vec::from_slice(alloc, out.held())?))
+#[derive(Clone, Copy)]
+struct Check {
+    name: &'static str,
+    parts: &'static [&'static [u8]],
+    address: &'static str,
+    reads: &'static [u64],
+    writes: &'static [u64],
+    status: Status,
+    text: &'static str,
+}
+
+/// A `check` that fails in its second read.
+const SECOND_READ: Check = Check {
+    name: "the second read",
+    parts: &[&ANNOUNCE],
+    address: "198.51.100.9",
+    reads: &[2],
+    writes: &[],
+    status: Status::ReadFault(Object::Stream),
+    text: "",
+};
+
+/// That this comes of it.
+fn comes(rt: &(impl Abort + AllocGlobal), check: &Check) {
+    let mut session = source(rt, &joined(rt, check.parts), check.reads);
+    let mut out = sink(rt, check.writes);
+    let words = words(rt, &["check", "session", check.address]);
+    let status = check_one(rt.alloc(), &words, &mut session, &mut out);
+    assert_eq!(rt; status, check.status, "of {}", check.name);
+    assert_eq!(rt; out.held(), check.text.as_bytes(), "of {}", check.name);
 }
 
 /// Messages of a stream, a source, and the line for it.
@@ -108,15 +119,21 @@ const JUDGED: [(&[&[u8]], &str, &str); 14] = [
 ];
 
 #[test]
-fn a_source_is_judged_by_the_prefixes_that_are_left(rt: HostRuntime) -> Result<(), Fail> {
-    let alloc = rt.alloc();
-    for (messages, source, line) in JUDGED {
-        let stream = joined(alloc, messages)?;
-        let (status, text) = check(alloc, &stream, source, &[], &[])?;
-        assert_eq!(rt; status, Status::Done, "at {source}");
-        assert_eq!(rt; text.as_slice(), line.as_bytes(), "at {source}");
+fn a_source_is_judged_by_the_prefixes_that_are_left(rt: HostRuntime) {
+    for (parts, address, line) in JUDGED {
+        comes(
+            &rt,
+            &Check {
+                name: line,
+                parts,
+                address,
+                reads: &[],
+                status: Status::Done,
+                text: line,
+                ..SECOND_READ
+            },
+        );
     }
-    Ok(())
 }
 
 /// The parts of a stream, and the first message of it that cannot be read: its code and subcode, or
@@ -154,45 +171,55 @@ const REFUSED: [(&str, &[&[u8]], Option<(u8, u8)>, u64); 9] = [
 ];
 
 #[test]
-fn the_first_message_that_cannot_be_read_is_named(rt: HostRuntime) -> Result<(), Fail> {
-    let alloc = rt.alloc();
+fn the_first_message_that_cannot_be_read_is_named(rt: HostRuntime) {
     for (name, parts, fault, place) in REFUSED {
-        let wanted = match fault {
+        let status = match fault {
             Some((code, sub)) => Status::BadSession { code, sub, place },
             None => Status::Unsupported { place },
         };
-        let stream = joined(alloc, parts)?;
-        let (status, text) = check(alloc, &stream, "198.51.100.9", &[], &[])?;
-        assert_eq!(rt; status, wanted, "{name}");
-        assert_eq!(rt; text.len(), 0, "{name} writes nothing");
+        comes(
+            &rt,
+            &Check {
+                name,
+                parts,
+                reads: &[],
+                status,
+                ..SECOND_READ
+            },
+        );
     }
-    Ok(())
 }
 
 #[test]
-fn a_stream_past_the_limit_is_too_long(rt: HostRuntime) -> Result<(), Fail> {
-    let alloc = rt.alloc();
-    let words = words(alloc, &["check", "session", "198.51.100.9"])?;
-    let mut session = SureSource::new(vec![in alloc; 0; STREAM_OCTETS + 1]?);
-    let status = check_one(alloc, &words, &mut session, &mut SureSink::new());
+fn a_stream_past_the_limit_is_too_long(rt: HostRuntime) {
+    let words = words(&rt, &["check", "session", "198.51.100.9"]);
+    let octets = vec![in rt.alloc(); 0; STREAM_OCTETS + 1].expect(&rt, "memory");
+    let mut session = SureSource::new(octets);
+    let status = check_one(rt.alloc(), &words, &mut session, &mut SureSink::new());
     assert_eq!(rt; status, Status::TooLong(Object::Stream));
-    Ok(())
 }
 
-/// A source, the reads and the writes that fail, and the answer.
-const FAILED: [(&str, &[u64], &[u64], Status); 3] = [
-    ("198.51.100.9", &[2], &[], Status::ReadFault(Object::Stream)),
-    ("198.51.100.9", &[], &[1], Status::WriteFault),
-    // No address, which is told before the stream is read.
-    ("198.51.100.09", &[1], &[1], Status::Usage),
+const FAILED: [Check; 3] = [
+    SECOND_READ,
+    Check {
+        name: "the first write",
+        reads: &[],
+        writes: &[1],
+        status: Status::WriteFault,
+        ..SECOND_READ
+    },
+    Check {
+        name: "no address, which is told before the stream is read",
+        address: "198.51.100.09",
+        reads: &[1],
+        status: Status::Usage,
+        ..SECOND_READ
+    },
 ];
 
 #[test]
-fn a_fault_of_the_outside_is_told(rt: HostRuntime) -> Result<(), Fail> {
-    for (source, reads, writes, wanted) in FAILED {
-        let (status, text) = check(rt.alloc(), &ANNOUNCE, source, reads, writes)?;
-        assert_eq!(rt; status, wanted, "at {source}");
-        assert_eq!(rt; text.len(), 0, "at {source}");
+fn a_fault_of_the_outside_is_told(rt: HostRuntime) {
+    for check in &FAILED {
+        comes(&rt, check);
     }
-    Ok(())
 }

@@ -1,91 +1,101 @@
 //! `offline` where it is refused or its feed cannot go on: the status, and the front of the text that
 //! was written.
-use crate::tests::events::{Event, FULL, mem_feed, trace, trace_feed};
-use crate::tests::runs::{ALL_AT_ONCE, HEAD, OFFLINE, offline, words};
-use feed_io::{MemSource, SureSink, SureSource};
+use crate::tests::events::{Event, FULL, mem_feed, source, trace_feed};
+use crate::tests::runs::{ALL_AT_ONCE, HEAD, OFFLINE, ends, headed, words};
+use feed_io::{SureSink, SureSource};
 use runbook::BookKind;
-use std::test::Fail;
+use std::process::Abort;
 use urpf_cli::{BOOK_OCTETS, Object, Status, offline_feed};
 
-#[test]
-fn a_book_that_is_refused_leaves_the_feed_alone(rt: HostRuntime) -> Result<(), Fail> {
-    let alloc = rt.alloc();
-    let cases: [(&str, u32, BookKind); 4] = [
-        ("pull 1 all\n", 1, BookKind::Session),
-        ("pull 0 all\nchek 0 1.2.3.4\n", 2, BookKind::Syntax),
-        ("pull 0 all\npublish now\npull 1 all\n", 2, BookKind::Syntax),
-        ("publish\n\ncheck 1 198.51.100.9\n", 3, BookKind::Iface),
-    ];
-    for (book, line, kind) in cases {
-        let mut feed = mem_feed(alloc, &FULL, &[1])?;
-        let (status, text) = offline(alloc, book, &mut feed, &[1])?;
-        assert_eq!(rt; status, Status::BadBook { line, kind }, "of {book}");
-        assert_eq!(rt; text.len(), 0, "of {book}");
-    }
-    Ok(())
-}
+/// Runbooks, and the first line of each that is refused.
+const BOOKS: [(&str, u32, BookKind); 4] = [
+    ("pull 1 all\n", 1, BookKind::Session),
+    ("pull 0 all\nchek 0 1.2.3.4\n", 2, BookKind::Syntax),
+    ("pull 0 all\npublish now\npull 1 all\n", 2, BookKind::Syntax),
+    ("publish\n\ncheck 1 198.51.100.9\n", 3, BookKind::Iface),
+];
 
 #[test]
-fn a_book_past_its_limit_is_too_long(rt: HostRuntime) -> Result<(), Fail> {
-    let alloc = rt.alloc();
-    let words = words(alloc, &OFFLINE)?;
-    let mut book = SureSource::new(vec![in alloc; 0; BOOK_OCTETS + 1]?);
-    let mut feed = mem_feed(alloc, &FULL, &[1])?;
-    let status = offline_feed(alloc, &words, &mut book, &mut feed, &mut SureSink::new());
-    assert_eq!(rt; status, Status::TooLong(Object::Book));
-    // A full book of empty lines is read, and asks for nothing.
-    let mut book = SureSource::new(vec![in alloc; b'\n'; BOOK_OCTETS]?);
-    let status = offline_feed(alloc, &words, &mut book, &mut feed, &mut SureSink::new());
-    assert_eq!(rt; status, Status::Done);
-    Ok(())
-}
-
-#[test]
-fn a_failed_read_of_the_book_is_told(rt: HostRuntime) -> Result<(), Fail> {
-    let alloc = rt.alloc();
-    let words = words(alloc, &OFFLINE)?;
-    let fails = Vec::from_slice(alloc, &[1])?;
-    let mut book = MemSource::new(Vec::new(alloc), fails);
-    let mut feed = mem_feed(alloc, &FULL, &[1])?;
-    let status = offline_feed(alloc, &words, &mut book, &mut feed, &mut SureSink::new());
-    assert_eq!(rt; status, Status::ReadFault(Object::Book));
-    Ok(())
-}
-
-#[test]
-fn words_of_no_form_are_told_first(rt: HostRuntime) -> Result<(), Fail> {
-    let alloc = rt.alloc();
-    let rows: [&[&str]; 5] = [
-        &[],
-        &["offline", "book"],
-        &["offline", "book", "trace", "trace"],
-        &["Offline", "book", "trace"],
-        &["check", "book", "trace"],
-    ];
-    for row in rows {
-        let words = words(alloc, row)?;
-        let mut book = MemSource::new(Vec::new(alloc), Vec::from_slice(alloc, &[1])?);
-        let mut feed = mem_feed(alloc, &[], &[1])?;
-        let status = offline_feed(alloc, &words, &mut book, &mut feed, &mut SureSink::new());
-        assert_eq!(rt; status, Status::Usage);
-    }
-    Ok(())
-}
-
-#[test]
-fn a_feed_that_fails_leaves_a_front_of_the_text(rt: HostRuntime) -> Result<(), Fail> {
-    let alloc = rt.alloc();
-    for call in 1..6 {
-        let mut feed = mem_feed(alloc, &FULL, &[call])?;
-        let (status, text) = offline(alloc, ALL_AT_ONCE, &mut feed, &[])?;
-        assert_eq!(rt;
-            status,
-            Status::ReadFault(Object::Session(0)),
-            "at call {call}"
+fn a_book_that_is_refused_leaves_the_feed_alone(rt: HostRuntime) {
+    for (book, line, kind) in BOOKS {
+        let mut feed = mem_feed(&rt, &FULL, &[1]);
+        ends(
+            &rt,
+            book,
+            book,
+            &mut feed,
+            &[1],
+            Status::BadBook { line, kind },
+            "",
         );
-        assert_eq!(rt; text.as_slice(), HEAD.as_bytes(), "at call {call}");
     }
-    Ok(())
+}
+
+/// How `offline` over a book of so many of this octet ends. The first call of its feed would fail.
+fn long_book(rt: &(impl Abort + AllocGlobal), octet: u8, count: usize) -> Status {
+    let octets = vec![in rt.alloc(); octet; count].expect(rt, "memory");
+    let mut book = SureSource::new(octets);
+    let mut feed = mem_feed(rt, &FULL, &[1]);
+    let words = words(rt, &OFFLINE);
+    offline_feed(
+        rt.alloc(),
+        &words,
+        &mut book,
+        &mut feed,
+        &mut SureSink::new(),
+    )
+}
+
+#[test]
+fn a_book_past_its_limit_is_too_long(rt: HostRuntime) {
+    let past = long_book(&rt, 0, BOOK_OCTETS + 1);
+    assert_eq!(rt; past, Status::TooLong(Object::Book));
+    // A full book of empty lines is read, and asks for nothing.
+    assert_eq!(rt; long_book(&rt, b'\n', BOOK_OCTETS), Status::Done);
+}
+
+/// Words, of which those of a run read a book whose first read fails, and the answer.
+const WORDS: [(&[&str], Status); 6] = [
+    (&OFFLINE, Status::ReadFault(Object::Book)),
+    (&[], Status::Usage),
+    (&["offline", "book"], Status::Usage),
+    (&["offline", "book", "trace", "trace"], Status::Usage),
+    (&["Offline", "book", "trace"], Status::Usage),
+    (&["check", "book", "trace"], Status::Usage),
+];
+
+#[test]
+fn words_of_no_form_are_told_before_the_book_is_read(rt: HostRuntime) {
+    for (line, wanted) in WORDS {
+        let words = words(&rt, line);
+        let mut book = source(&rt, b"", &[1]);
+        let mut feed = mem_feed(&rt, &FULL, &[1]);
+        let status = offline_feed(
+            rt.alloc(),
+            &words,
+            &mut book,
+            &mut feed,
+            &mut SureSink::new(),
+        );
+        assert_eq!(rt; status, wanted, "of {words:?}");
+    }
+}
+
+#[test]
+fn a_feed_that_fails_leaves_a_front_of_the_text(rt: HostRuntime) {
+    let wanted = Status::ReadFault(Object::Session(0));
+    for call in 1..6 {
+        let mut feed = mem_feed(&rt, &FULL, &[call]);
+        ends(
+            &rt,
+            "a failed call",
+            ALL_AT_ONCE,
+            &mut feed,
+            &[],
+            wanted,
+            HEAD,
+        );
+    }
 }
 
 /// A trace that breaks: the events before the break, the octets of the break, and what comes of a
@@ -150,16 +160,18 @@ const BROKEN: [Broken; 7] = [
 ];
 
 #[test]
-fn a_broken_trace_stops_the_run_where_it_breaks(rt: HostRuntime) -> Result<(), Fail> {
-    let alloc = rt.alloc();
+fn a_broken_trace_stops_the_run_where_it_breaks(rt: HostRuntime) {
     for row in &BROKEN {
-        let mut octets = trace(alloc, row.events)?;
-        octets.extend_from_slice(row.broken)?;
-        let mut feed = trace_feed(alloc, &octets)?;
-        let (status, text) = offline(alloc, row.book, &mut feed, &[])?;
-        let wanted = format!(in alloc; "{HEAD}{}", row.text)?;
-        assert_eq!(rt; status, row.status, "of {}", row.name);
-        assert_eq!(rt; text.as_slice(), wanted.as_bytes(), "of {}", row.name);
+        let mut feed = trace_feed(&rt, row.events, row.broken);
+        let text = headed(&rt, row.text);
+        ends(
+            &rt,
+            row.name,
+            row.book,
+            &mut feed,
+            &[],
+            row.status,
+            text.as_str(),
+        );
     }
-    Ok(())
 }

@@ -1,15 +1,13 @@
 //! How lines are offered to a sink: each whole in one write, and none behind a write that fails.
 ghost use Rattle.std.specs.Prelude.{None, ◌≡◌};
 
-use crate::tests::events::{A_KEEPALIVE, AN_OPEN, AN_UPDATE, Event, FULL, mem_feed, sure_feed};
+use crate::tests::events::{A_KEEPALIVE, AN_OPEN, AN_UPDATE, Event, FULL, mem_feed, sink, source};
 use crate::tests::pulls::{AMPLE, control};
-use crate::tests::runs::{ALL_AT_ONCE, HEAD, OFFLINE, offline, words};
+use crate::tests::runs::{ALL_AT_ONCE, HEAD, OFFLINE, ends, words};
 use control_core::RunFault;
-use feed_io::{MemSink, SureSource};
 use message_octets::ANNOUNCE;
 use std::alloc::Global;
 use std::process::Abort;
-use std::test::Fail;
 use urpf_base::{Failed, Sink};
 use urpf_cli::{Status, check_one, offline_feed};
 
@@ -94,57 +92,60 @@ fn are_pieces(rt: &impl Abort, sink: &PieceSink, lines: &[&str]) {
 }
 
 #[test]
-fn each_line_is_offered_whole_in_one_write(rt: HostRuntime) -> Result<(), Fail> {
-    let alloc = rt.alloc();
-    let mut book = SureSource::new(Vec::from_slice(alloc, BOOK.as_bytes())?);
-    let mut out = PieceSink::new(alloc);
-    let status = offline_feed(
-        alloc,
-        &words(alloc, &OFFLINE)?,
-        &mut book,
-        &mut sure_feed(alloc, &TWO_RESETS)?,
-        &mut out,
-    );
+fn each_line_is_offered_whole_in_one_write(rt: HostRuntime) {
+    let mut book = source(&rt, BOOK.as_bytes(), &[]);
+    let mut feed = mem_feed(&rt, &TWO_RESETS, &[]);
+    let mut out = PieceSink::new(rt.alloc());
+    let line = words(&rt, &OFFLINE);
+    let status = offline_feed(rt.alloc(), &line, &mut book, &mut feed, &mut out);
     assert_eq!(rt; status, Status::Done);
     are_pieces(&rt, &out, &LINES);
 
-    let words = words(alloc, &["check", "session", "198.51.100.9"])?;
-    let mut session = SureSource::new(Vec::from_slice(alloc, &ANNOUNCE)?);
-    out = PieceSink::new(alloc);
-    assert_eq!(rt;
-        check_one(alloc, &words, &mut session, &mut out),
-        Status::Done
-    );
-    let line = "check 198.51.100.9 pass messages 1 prefixes 1 rest 0\n";
-    are_pieces(&rt, &out, &[line]);
-    Ok(())
+    let mut session = source(&rt, &ANNOUNCE, &[]);
+    let mut out = PieceSink::new(rt.alloc());
+    let line = words(&rt, &["check", "session", "198.51.100.9"]);
+    let status = check_one(rt.alloc(), &line, &mut session, &mut out);
+    assert_eq!(rt; status, Status::Done);
+    let wanted = "check 198.51.100.9 pass messages 1 prefixes 1 rest 0\n";
+    are_pieces(&rt, &out, &[wanted]);
 }
 
+/// The write that fails, and what the sink of a run over a full session holds then.
+const FAILED: [(u64, &str); 4] = [
+    (1, ""),
+    (2, "run interfaces 1 sessions 1 pairs 0 skipped 0\n"),
+    (3, HEAD),
+    (
+        4,
+        "run interfaces 1 sessions 1 pairs 0 skipped 0\n\
+        publish 0 edits 0 cells 0 items 0\n\
+        end 0 items 4 rest 0\n",
+    ),
+];
+
 #[test]
-fn a_sink_that_fails_has_a_front_of_the_text(rt: HostRuntime) -> Result<(), Fail> {
-    let alloc = rt.alloc();
-    let run_line = "run interfaces 1 sessions 1 pairs 0 skipped 0\n";
-    let to_the_end = format!(in alloc; "{HEAD}end 0 items 4 rest 0\n")?;
-    let rows: [(u64, &str); 4] = [(1, ""), (2, run_line), (3, HEAD), (4, to_the_end.as_str())];
-    for (write, wanted) in rows {
-        let mut feed = sure_feed(alloc, &FULL)?;
-        let (status, text) = offline(alloc, ALL_AT_ONCE, &mut feed, &[write])?;
-        assert_eq!(rt; status, Status::WriteFault, "at write {write}");
-        assert_eq!(rt; text.as_slice(), wanted.as_bytes(), "at write {write}");
+fn a_sink_that_fails_has_a_front_of_the_text(rt: HostRuntime) {
+    for (write, text) in FAILED {
+        let mut feed = mem_feed(&rt, &FULL, &[]);
+        ends(
+            &rt,
+            text,
+            ALL_AT_ONCE,
+            &mut feed,
+            &[write],
+            Status::WriteFault,
+            text,
+        );
     }
-    Ok(())
 }
 
 #[test]
-fn a_pull_stops_at_the_second_write_that_fails(rt: HostRuntime) -> Result<(), Fail> {
-    let alloc = rt.alloc();
-    let mut control = control(alloc, 90, 2_000_000, AMPLE)?;
-    let mut feed = mem_feed(alloc, &TWO_RESETS, &[])?;
-    let fails = Vec::from_slice(alloc, &[2])?;
-    let mut out = MemSink::new(Vec::with_capacity(alloc, 8192)?, fails);
+fn a_pull_stops_at_the_second_write_that_fails(rt: HostRuntime) {
+    let mut control = control(&rt, 90, 2_000_000, AMPLE);
+    let mut feed = mem_feed(&rt, &TWO_RESETS, &[]);
+    let mut out = sink(&rt, &[2]);
     let result = control.pull(&mut feed, None, &mut out);
     assert_eq!(rt; result, Err(RunFault::WriteFault));
     assert_eq!(rt; out.held(), LINES[4].as_bytes());
     assert_eq!(rt; control.items(), 7);
-    Ok(())
 }

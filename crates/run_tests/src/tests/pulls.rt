@@ -1,14 +1,11 @@
 //! Pulls of one session, with their lines, and a publication behind each.
-use crate::tests::events::{A_KEEPALIVE, AN_OPEN, AN_UPDATE, Event, FULL, mem_feed};
+use crate::tests::events::{A_KEEPALIVE, AN_OPEN, AN_UPDATE, Event, FULL, mem_feed, sink};
 use control_core::{
     Control, ITEM_LIMIT, Limits, OCTET_LIMIT, RunFault, assigned_limits, cuts_do_not_count,
     items_of_a_front, one_list_of_items, one_more_update, one_rest, one_run,
 };
-use feed_io::MemSink;
 use message_octets::TWO_PREFIXES;
-use std::alloc::Global;
 use std::process::Abort;
-use std::test::Fail;
 use urpf_base::{Addr, IfaceId, SessionConfig, Verdict};
 
 /// As much as a session may have.
@@ -19,20 +16,15 @@ pub const AMPLE: Limits = Limits {
 
 /// A control of a session with AS 64501 on interface 0, with this hold time in seconds and so many
 /// prefixes.
-pub fn control(alloc: Global, hold: u16, max: u32, limits: Limits) -> Result<Control, Fail> {
-    let Some(iface) = IfaceId::new(0) else {
-        return Err(Fail::from("interface 0 is configured"));
-    };
-    if limits.items > ITEM_LIMIT || limits.octets > OCTET_LIMIT {
-        return Err(Fail::from("limits are at most the largest"));
-    }
+pub fn control(rt: &(impl Abort + AllocGlobal), hold: u16, max: u32, limits: Limits) -> Control {
+    assert!(rt; limits.items <= ITEM_LIMIT && limits.octets <= OCTET_LIMIT);
     let config = SessionConfig {
-        iface,
+        iface: IfaceId::new(0).expect(rt, "an interface"),
         peer_as: 64501,
         hold,
         max,
     };
-    Ok(Control::new(alloc, config, limits)?)
+    Control::new(rt.alloc(), config, limits).expect(rt, "memory")
 }
 
 /// A session, what a pull of all its items comes to, and a publication behind it.
@@ -151,25 +143,23 @@ const ROWS: [Pulled; 7] = [
 ];
 
 /// That a pull of all items comes to this, and a publication behind it.
-fn is_pulled(rt: &(impl Abort + AllocGlobal), row: &Pulled) -> Result<(), Fail> {
-    let alloc = rt.alloc();
+fn is_pulled(rt: &(impl Abort + AllocGlobal), row: &Pulled) {
     let name = row.name;
-    let mut control = control(alloc, row.hold, row.max, row.limits)?;
-    let mut out = MemSink::new(Vec::with_capacity(alloc, 8192)?, Vec::new(alloc));
-    let result = control.pull(&mut mem_feed(alloc, row.events, &[])?, None, &mut out);
+    let mut control = control(rt, row.hold, row.max, row.limits);
+    let mut out = sink(rt, &[]);
+    let result = control.pull(&mut mem_feed(rt, row.events, &[]), None, &mut out);
     assert_eq!(rt; result, row.result, "of {name}");
     assert_eq!(rt; out.held(), row.text.as_bytes(), "of {name}");
     assert_eq!(rt; control.items(), row.items, "of {name}");
     assert_eq!(rt; control.number(), 0, "of {name}");
-    assert_eq!(rt; control.publish()?, (1, row.cells), "of {name}");
+    assert_eq!(rt; control.publish(), Ok((1, row.cells)), "of {name}");
     assert_eq!(rt; control.number(), 1, "of {name}");
     let source = Addr::V4(0xC633_6489);
     assert_eq!(rt; control.judge(&source), row.verdict, "of {name}");
-    Ok(())
 }
 
 #[test]
-fn a_session_is_pulled_and_published(rt: HostRuntime) -> Result<(), Fail> {
+fn a_session_is_pulled_and_published(rt: HostRuntime) {
     assigned_limits();
     one_list_of_items();
     one_rest();
@@ -178,7 +168,6 @@ fn a_session_is_pulled_and_published(rt: HostRuntime) -> Result<(), Fail> {
     one_run();
     one_more_update();
     for row in &ROWS {
-        is_pulled(&rt, row)?;
+        is_pulled(&rt, row);
     }
-    Ok(())
 }

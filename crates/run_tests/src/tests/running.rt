@@ -4,8 +4,7 @@ use crate::tests::runs::{ALL_AT_ONCE, FULL_TEXT, is_run_over};
 use message_octets::{
     ANNOUNCE, COMMUNITIES, END_OF_RIB, END_OF_RIB_IPV6, KEEPALIVE, OPEN, WITHDRAW,
 };
-use std::alloc::Global;
-use std::test::Fail;
+use std::process::Abort;
 
 /// A run: its runbook, the events of its session, and its text behind the head.
 #[derive(Clone, Copy)]
@@ -112,15 +111,14 @@ const RUNS: [Run; 7] = [
 ];
 
 #[test]
-fn a_run_writes_its_whole_text(rt: HostRuntime) -> Result<(), Fail> {
+fn a_run_writes_its_whole_text(rt: HostRuntime) {
     for run in &RUNS {
-        is_run_over(&rt, run.name, run.book, run.events, run.text)?;
+        is_run_over(&rt, run.name, run.book, run.events, run.text);
     }
-    Ok(())
 }
 
 #[test]
-fn a_cut_transport_ends_the_session_and_drops_what_was_left(rt: HostRuntime) -> Result<(), Fail> {
+fn a_cut_transport_ends_the_session_and_drops_what_was_left(rt: HostRuntime) {
     let events = [
         Event::Up,
         AN_OPEN,
@@ -134,52 +132,50 @@ fn a_cut_transport_ends_the_session_and_drops_what_was_left(rt: HostRuntime) -> 
         end 0 items 5 rest 17\n\
         publish 1 edits 0 cells 0 items 5\n\
         done publications 1 packets 0\n";
-    is_run_over(&rt, "a cut UPDATE", "pull 0 all\npublish\n", &events, text)
+    is_run_over(&rt, "a cut UPDATE", "pull 0 all\npublish\n", &events, text);
 }
 
 /// Up, and the messages octet by octet. Where seconds are asked for, one passes behind so many octets.
 fn octet_by_octet<'a>(
-    alloc: Global,
+    rt: &(impl Abort + AllocGlobal),
     stream: &'a [u8],
     second: Option<usize>,
-) -> Result<Vec<Event<'a>>, Fail> {
-    let mut events = Vec::new(alloc);
-    events.push(Event::Up)?;
+) -> Vec<Event<'a>> {
+    let mut events = Vec::new(rt.alloc());
+    events.push(Event::Up).expect(rt, "memory");
     for (place, octet) in stream.chunks(1).enumerate() {
         if second == Some(place) {
-            events.push(Event::Elapsed(1))?;
+            events.push(Event::Elapsed(1)).expect(rt, "memory");
         }
-        events.push(Event::Octets(octet))?;
+        events.push(Event::Octets(octet)).expect(rt, "memory");
     }
-    Ok(events)
+    events
 }
 
 #[test]
-fn octets_one_by_one_write_the_same_text(rt: HostRuntime) -> Result<(), Fail> {
-    let alloc = rt.alloc();
-    let stream = joined(alloc, &[&OPEN, &KEEPALIVE, &ANNOUNCE])?;
-    let events = octet_by_octet(alloc, &stream, None)?;
-    is_run_over(&rt, "octet by octet", ALL_AT_ONCE, &events, FULL_TEXT)?;
+fn octets_one_by_one_write_the_same_text(rt: HostRuntime) {
+    let stream = joined(&rt, &[&OPEN, &KEEPALIVE, &ANNOUNCE]);
+    let events = octet_by_octet(&rt, &stream, None);
+    is_run_over(&rt, "octet by octet", ALL_AT_ONCE, &events, FULL_TEXT);
     // The OPEN and the KEEPALIVE have 56 octets, and the second passes behind the 20th of the UPDATE.
-    let events = octet_by_octet(alloc, &stream, Some(76))?;
+    let events = octet_by_octet(&rt, &stream, Some(76));
     let text = "end 0 items 5 rest 0\n\
         publish 1 edits 0 cells 1 items 5\n\
         check 0 198.51.100.9 pass 1\n\
         check 0 198.51.101.0 drop 1\n\
         done publications 1 packets 0\n";
-    is_run_over(&rt, "a second within a message", ALL_AT_ONCE, &events, text)
+    is_run_over(&rt, "a second within a message", ALL_AT_ONCE, &events, text);
 }
 
 #[test]
-fn a_cut_at_any_place_writes_the_same_text(rt: HostRuntime) -> Result<(), Fail> {
-    let alloc = rt.alloc();
-    let stream = joined(alloc, &[&OPEN, &KEEPALIVE, &ANNOUNCE])?;
+fn a_cut_at_any_place_writes_the_same_text(rt: HostRuntime) {
+    let stream = joined(&rt, &[&OPEN, &KEEPALIVE, &ANNOUNCE]);
     for place in 1..stream.len() {
         let (front, back) = stream.split_at(place);
         let events = [Event::Up, Event::Octets(front), Event::Octets(back)];
-        let name = format!(in alloc; "a cut behind octet {place}")?;
-        is_run_over(&rt, name.as_str(), ALL_AT_ONCE, &events, FULL_TEXT)?;
+        let name = format!(in rt.alloc(); "a cut behind octet {place}").expect(&rt, "memory");
+        is_run_over(&rt, name.as_str(), ALL_AT_ONCE, &events, FULL_TEXT);
     }
     let events = [Event::Up, Event::Octets(&stream)];
-    is_run_over(&rt, "no cut", ALL_AT_ONCE, &events, FULL_TEXT)
+    is_run_over(&rt, "no cut", ALL_AT_ONCE, &events, FULL_TEXT);
 }

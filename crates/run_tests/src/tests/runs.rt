@@ -1,9 +1,7 @@
 //! Runs of `offline` over feeds that a test tells, and what comes of each.
-use crate::tests::events::{Event, mem_feed, sure_feed, trace, trace_feed};
-use feed_io::{Feed, MemSink, MemSource};
-use std::alloc::Global;
+use crate::tests::events::{Event, feeds, sink, source, trace_feed};
+use feed_io::Feed;
 use std::process::Abort;
-use std::test::Fail;
 use urpf_cli::{Status, offline_feed};
 
 /// How each run begins: the run line, and the line of publication 0.
@@ -21,63 +19,56 @@ pub const FULL_TEXT: &str = "end 0 items 4 rest 0\n\
     done publications 1 packets 0\n";
 
 /// A command line of these words.
-pub fn words(alloc: Global, words: &[&str]) -> Result<Vec<String>, Fail> {
-    let mut line = Vec::new(alloc);
+pub fn words(rt: &(impl Abort + AllocGlobal), words: &[&str]) -> Vec<String> {
+    let mut line = Vec::new(rt.alloc());
     for word in words {
-        line.push(String::from_str(alloc, word)?)?;
+        let word = String::from_str(rt.alloc(), word).expect(rt, "memory");
+        line.push(word).expect(rt, "memory");
     }
-    Ok(line)
+    line
 }
 
 /// The words of a run.
 pub const OFFLINE: [&str; 3] = ["offline", "book", "trace"];
 
-/// The status of `offline book trace` over these, and what it writes. These writes fail, by their
-/// numbers from 1.
-pub fn offline<F: Feed>(
-    alloc: Global,
-    book: &str,
-    feed: &mut F,
-    writes: &[u64],
-) -> Result<(Status, Vec<u8>), Fail> {
-    let words = words(alloc, &OFFLINE)?;
-    let mut book = MemSource::new(Vec::from_slice(alloc, book.as_bytes())?, Vec::new(alloc));
-    let mut out = MemSink::new(
-        Vec::with_capacity(alloc, 8192)?,
-        Vec::from_slice(alloc, writes)?,
-    );
-    let status = offline_feed(alloc, &words, &mut book, feed, &mut out);
-    Ok((status, Vec::from_slice(alloc, out.held())?))
-}
-
-/// That the run over this feed is done, and writes the head and this text.
-pub fn is_run<F: Feed>(
+/// That `offline book trace` over these ends so, and the sink holds this text. These writes
+/// fail, by their numbers from 1.
+pub fn ends<F: Feed>(
     rt: &(impl Abort + AllocGlobal),
     name: &str,
     book: &str,
     feed: &mut F,
+    writes: &[u64],
+    status: Status,
     text: &str,
-) -> Result<(), Fail> {
-    let (status, written) = offline(rt.alloc(), book, feed, &[])?;
-    let wanted = format!(in rt.alloc(); "{HEAD}{text}")?;
-    assert_eq!(rt; status, Status::Done, "of {name}");
-    assert_eq!(rt; written.as_slice(), wanted.as_bytes(), "of {name}");
-    Ok(())
+) {
+    let mut book = source(rt, book.as_bytes(), &[]);
+    let mut out = sink(rt, writes);
+    let was = offline_feed(rt.alloc(), &words(rt, &OFFLINE), &mut book, feed, &mut out);
+    assert_eq!(rt; was, status, "of {name}");
+    assert_eq!(rt; out.held(), text.as_bytes(), "of {name}");
 }
 
-/// The same over each feed of these events: both in memory, and that over their trace.
+/// The head, and this text behind it.
+pub fn headed(rt: &(impl Abort + AllocGlobal), text: &str) -> String {
+    format!(in rt.alloc(); "{HEAD}{text}").expect(rt, "memory")
+}
+
+/// That the run over each feed of these events is done, and writes the head and this text: over both
+/// feeds in memory, and over that of their trace.
 pub fn is_run_over(
     rt: &(impl Abort + AllocGlobal),
     name: &str,
     book: &str,
     events: &[Event<'_>],
     text: &str,
-) -> Result<(), Fail> {
-    let alloc = rt.alloc();
-    is_run(rt, name, book, &mut mem_feed(alloc, events, &[])?, text)?;
-    is_run(rt, name, book, &mut sure_feed(alloc, events)?, text)?;
-    let trace = trace(alloc, events)?;
-    is_run(rt, name, book, &mut trace_feed(alloc, &trace)?, text)
+) {
+    let (mut sure, mut mem) = feeds(rt, events, &[]);
+    let mut trace = trace_feed(rt, events, &[]);
+    let text = headed(rt, text);
+    ends(rt, name, book, &mut sure, &[], Status::Done, text.as_str());
+    ends(rt, name, book, &mut mem, &[], Status::Done, text.as_str());
+    ends(rt, name, book, &mut trace, &[], Status::Done, text.as_str());
 }
 
 /// What comes of a session.
@@ -97,15 +88,14 @@ pub struct Row<'a> {
 pub const BOOK: &str = "pull 0 all\npublish\ncheck 0 198.51.100.9\n";
 
 /// That all of this comes of each session that is pulled whole and then published.
-pub fn come(rt: &(impl Abort + AllocGlobal), rows: &[Row<'_>]) -> Result<(), Fail> {
+pub fn come(rt: &(impl Abort + AllocGlobal), rows: &[Row<'_>]) {
     for row in rows {
-        comes(rt, row)?;
+        comes(rt, row);
     }
-    Ok(())
 }
 
 /// That all of this comes of a session that is pulled whole and then published.
-fn comes(rt: &(impl Abort + AllocGlobal), row: &Row<'_>) -> Result<(), Fail> {
+fn comes(rt: &(impl Abort + AllocGlobal), row: &Row<'_>) {
     let verdict = if row.routes == 0 { "drop" } else { "pass" };
     let Row {
         resets,
@@ -119,6 +109,7 @@ fn comes(rt: &(impl Abort + AllocGlobal), row: &Row<'_>) -> Result<(), Fail> {
         publish 1 edits 0 cells {routes} items {items}\n\
         check 0 198.51.100.9 {verdict} 1\n\
         done publications 1 packets 0\n"
-    )?;
-    is_run_over(rt, row.name, BOOK, row.events, text.as_str())
+    )
+    .expect(rt, "memory");
+    is_run_over(rt, row.name, BOOK, row.events, text.as_str());
 }

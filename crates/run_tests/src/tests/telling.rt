@@ -2,7 +2,6 @@
 use crate::tests::runs::words;
 use runbook::BookKind;
 use std::process::Abort;
-use std::test::Fail;
 use urpf_base::{Addr, Line};
 use urpf_cli::{
     Command, Object, Status, asks_offline, assigned_numbers, exit_code, one_run_text, put_status,
@@ -123,12 +122,11 @@ const COMMANDS: [(&[&str], Option<Command>); 9] = [
 ];
 
 #[test]
-fn words_ask_for_a_command_or_fit_none(rt: HostRuntime) -> Result<(), Fail> {
+fn words_ask_for_a_command_or_fit_none(rt: HostRuntime) {
     for (line, wanted) in COMMANDS {
-        let words = words(rt.alloc(), line)?;
+        let words = words(&rt, line);
         assert_eq!(rt; read_command(&words), wanted, "of {words:?}");
         let offline = wanted == Some(Command::Offline);
         assert_eq!(rt; asks_offline(&words), offline, "of {words:?}");
     }
-    Ok(())
 }

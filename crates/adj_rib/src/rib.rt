@@ -1,7 +1,8 @@
 //! The routes of one session, by prefix: routes are put in and taken out one by one, and what is
 //! asked of them goes out: the origin of a prefix, the pairs in their order, those of two ribs side
 //! by side, whether any prefix covers an address.
-ghost use Rattle.std.specs.Prelude.{◌≡◌, ◌↔◌, [], ◌∷◌, length, IsTrue, IsSome, IfSome, IfNone, IfOk, OnOk, OnErr, Some, None, option_copied, ◌<◌, ◌^◌};
+ghost use Rattle.std.specs.Prelude.{◌≡◌, ◌↔◌, [], ◌∷◌, length, IsTrue, IsSome, IfSome, IfNone, IfOk, OnOk, OnErr, Some};
+ghost use Rattle.std.specs.Prelude.{None, option_copied, ◌<◌, ◌^◌};
 ghost use Rattle.urpf_base.specs.Address.{Block, Covers};
 ghost use Rattle.urpf_base.specs.Lists.{Has};
 ghost use Rattle.prefix_map.specs.Beside.{beside};

@@ -18,13 +18,15 @@ reset_of (Reset cause) = Some cause
 reset_of (Changes update) = None
 
 -- an outcome came to pass: the session has its state, the routes are those behind its effect, and its reset is told
-pub record Came (outcome : Outcome) (before : List Effect) (new : SessionState) (routes : Routes) (reset : Option ResetCause) : Type 0 where
+pub record Came (outcome : Outcome) (before : List Effect) (new : SessionState) (routes : Routes)
+    (reset : Option ResetCause) : Type 0 where
   pub state : new.state ≡ outcome.0
   pub holds : HoldsAll (before ++ outcome.1 ∷ []) routes
   pub told : reset ≡ reset_of outcome.1
 
 -- the row of an item came to pass, within the maximum of prefixes
-pub record TookRow (old : SessionState) (item : Item) (before : List Effect) (new : SessionState) (routes : Routes) (reset : Option ResetCause) : Type 0 where
+pub record TookRow (old : SessionState) (item : Item) (before : List Effect) (new : SessionState) (routes : Routes)
+    (reset : Option ResetCause) : Type 0 where
   pub row : Outcome
   pub step : Step old.config old.state item row
   pub outcome : Outcome
@@ -32,7 +34,8 @@ pub record TookRow (old : SessionState) (item : Item) (before : List Effect) (ne
   pub came : Came outcome before new routes reset
 
 -- an UPDATE in a session of this state came to pass, within the maximum of prefixes
-pub record Changed (old : SessionState) (update : RouteUpdate) (before : List Effect) (new : SessionState) (routes : Routes) (reset : Option ResetCause) : Type 0 where
+pub record Changed (old : SessionState) (update : RouteUpdate) (before : List Effect) (new : SessionState)
+    (routes : Routes) (reset : Option ResetCause) : Type 0 where
   pub outcome : Outcome
   pub limited : Limited old.config.max before (old.state, Changes update) outcome
   pub came : Came outcome before new routes reset

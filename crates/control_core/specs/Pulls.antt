@@ -40,7 +40,8 @@ IsEndText session true events items text = (rest : ℕ) × IsRest events rest ×
 IsEndText session false events items text = text ≡ []
 
 -- what a pull writes: the line of each reset among the items that it took, and the end line where it met the end
-pub record IsPullText (session : ℕ) (events : List Event) (before more : List Effect) (met : Bool) (text : List ℕ) : Type 0 where
+pub record IsPullText (session : ℕ) (events : List Event) (before more : List Effect) (met : Bool)
+    (text : List ℕ) : Type 0 where
   pub end : List ℕ
   pub is_end : IsEndText session met events (length before + length more) end
   pub parts : text ≡ reset_lines session (length before) more ++ end
@@ -61,7 +62,8 @@ met_end old new = not old.ended && new.ended
 
 -- a session that stood for events and effects took more items of what its feed gave, and a sink took what the pull
 -- writes
-pub record Pulled (events : List Event) (effects : List Effect) (old_left new_left : Option (List Event)) (old_held new_held : Option (List ℕ)) (result : Result (Unit {0}) RunFault) (old new : PeerState) : Type 0 where
+pub record Pulled (events : List Event) (effects : List Effect) (old_left new_left : Option (List Event))
+    (old_held new_held : Option (List ℕ)) (result : Result (Unit {0}) RunFault) (old new : PeerState) : Type 0 where
   pub gave : List Event
   pub more : List Effect
   pub told : Gave old_left gave new_left
@@ -76,7 +78,8 @@ TakesAtMost (Some count) old new =
     (old.session.items ≤ new.session.items) × (new.session.items ≤ old.session.items + count)
 
 -- a pull that memory ran out for had stood for so much before, and a sink had taken the lines of the resets so far
-pub record Stopped (count : Option ℕ) (events : List Event) (effects : List Effect) (old : PeerState) (old_left : Option (List Event)) (old_held new_held : Option (List ℕ)) : Type 0 where
+pub record Stopped (count : Option ℕ) (events : List Event) (effects : List Effect) (old : PeerState)
+    (old_left : Option (List Event)) (old_held new_held : Option (List ℕ)) : Type 0 where
   pub gave : List Event
   pub more : List Effect
   pub left : Option (List Event)
@@ -119,7 +122,8 @@ StaysWithin limits old new =
     × (old.octets ≤ limits.octets → new.octets ≤ limits.octets)
 
 -- a pull: what it took and wrote, of whatever events the session stood for, how it ended, and what it stayed within
-pub record Pull (count : Option ℕ) (limits : Limits) (old_left new_left : Option (List Event)) (old_held new_held : Option (List ℕ)) (result : Result (Unit {0}) RunFault) (old new : PeerState) : Type 0 where
+pub record Pull (count : Option ℕ) (limits : Limits) (old_left new_left : Option (List Event))
+    (old_held new_held : Option (List ℕ)) (result : Result (Unit {0}) RunFault) (old new : PeerState) : Type 0 where
   pub pulled : (events : List Event) (effects : List Effect) → StandsFor events effects old → HadMemory result
       → Pulled events effects old_left new_left old_held new_held result old new
   pub stopped : (events : List Event) (effects : List Effect) → StandsFor events effects old → result ≡ Err OutOfMemory

@@ -13,7 +13,8 @@ use Rattle.control_core.specs.History.{StandsFor}
 use Rattle.control_core.specs.ItemSteps.{reset_of}
 
 -- one item of these events was taken, and its effect is told
-pub record TookItem (events : List Event) (effects : List Effect) (new : PeerState) (result : Result Turn RunFault) : Type 0 where
+pub record TookItem (events : List Event) (effects : List Effect) (new : PeerState)
+    (result : Result Turn RunFault) : Type 0 where
   pub effect : Effect
   pub stands : StandsFor events (effects ++ effect ∷ []) new
   pub told : result ≡ Ok (Took (reset_of effect))

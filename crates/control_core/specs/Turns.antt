@@ -40,7 +40,8 @@ Shows (Ok (End rest)) effects events old new = (effects ≡ []) × IsRest events
 Shows (Err fault) effects events old new = effects ≡ []
 
 -- the feed gave events and items of them were taken, and the session stands for these too
-pub record Turned (events : List Event) (effects : List Effect) (old_left new_left : Option (List Event)) (result : Result Turn RunFault) (new : PeerState) : Type 0 where
+pub record Turned (events : List Event) (effects : List Effect) (old_left new_left : Option (List Event))
+    (result : Result Turn RunFault) (new : PeerState) : Type 0 where
   pub gave : List Event
   pub more : List Effect
   pub told : Gave old_left gave new_left

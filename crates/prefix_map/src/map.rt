@@ -1,5 +1,6 @@
 //! The map: pairs go in and come out by their prefix, and a walk gives them in order.
-ghost use Rattle.std.specs.Prelude.{◌≡◌, ◌↔◌, ◌<◌, ◌≤◌, ◌+◌, ◌^◌, Some, None, IsSome, IfOk, OnOk, OnErr, IsTrue, length, option_copied};
+ghost use Rattle.std.specs.Prelude.{◌≡◌, ◌↔◌, ◌<◌, ◌≤◌, ◌+◌, ◌^◌, Some, None, IsSome, IfOk, OnOk, OnErr, IsTrue};
+ghost use Rattle.std.specs.Prelude.{length, option_copied};
 ghost use Rattle.urpf_base.specs.Address.{Block, Covers, width_of};
 ghost use Rattle.urpf_base.specs.Lists.{Has};
 ghost use Rattle.std.specs.FinMap as map;

@@ -4,7 +4,8 @@ ghost use Rattle.std.specs.BTreeMap.{keys};
 ghost use Rattle.std.specs.List.{list_all};
 ghost use Rattle.toml.specs.View.{view};
 ghost use Rattle.toml.specs.Data.{get};
-ghost use Rattle.router_config.specs.Documents.{as_number, as_tables, has_only, is_one_of, is_table, keys_at, number_at, tables_at, text_at};
+ghost use Rattle.router_config.specs.Documents.{as_number, as_tables, has_only, is_one_of, is_table, keys_at};
+ghost use Rattle.router_config.specs.Documents.{number_at, tables_at, text_at};
 
 use toml::{Table, Value};
 

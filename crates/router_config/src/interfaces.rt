@@ -10,7 +10,8 @@
 ghost use Rattle.std.specs.Prelude.{◌≡◌, ◌<◌, ◌≤◌, ◌^◌, [], IfSome, length, map};
 ghost use Rattle.std.specs.List.{list_any};
 ghost use Rattle.toml.specs.View.{view};
-ghost use Rattle.router_config.specs.Rules.{each, first_broken, has_number, interface_rules, is_free, mode_of, number_of, role_of};
+ghost use Rattle.router_config.specs.Rules.{each, first_broken, has_number, interface_rules, is_free, mode_of};
+ghost use Rattle.router_config.specs.Rules.{number_of, role_of};
 
 use crate::documents::{Place, has_known_keys, number_at, text_at};
 use crate::faults::{ConfigFault, ConfigKind, broken};

@@ -1,7 +1,8 @@
 //! The rules of a configuration: a document comes in, and the first rule that is broken goes out.
 ghost use Rattle.std.specs.Prelude.{◌≡◌, map, option_map};
 ghost use Rattle.toml.specs.View.{view};
-ghost use Rattle.router_config.specs.Rules.{first_broken, interfaces_of, interfaces_rules, rules, sessions_at, sessions_rules};
+ghost use Rattle.router_config.specs.Rules.{first_broken, interfaces_of, interfaces_rules, rules, sessions_at};
+ghost use Rattle.router_config.specs.Rules.{sessions_rules};
 
 use crate::documents::{Place, as_tables, has_known_keys, tables_at};
 use crate::faults::{ConfigFault, ConfigKind, broken};

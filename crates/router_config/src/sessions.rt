@@ -10,7 +10,8 @@
 //! ```
 ghost use Rattle.std.specs.Prelude.{◌≡◌, ◌<◌, ◌≤◌, ◌^◌, [], IfSome, length, map};
 ghost use Rattle.toml.specs.View.{view};
-ghost use Rattle.router_config.specs.Rules.{as_hold, each, first_broken, hold_of, iface_of, is_hold, max_of, peer_as_of, session_rules};
+ghost use Rattle.router_config.specs.Rules.{as_hold, each, first_broken, hold_of, iface_of, is_hold, max_of};
+ghost use Rattle.router_config.specs.Rules.{peer_as_of, session_rules};
 
 use crate::documents::{Place, as_number, has_known_keys, number_at};
 use crate::faults::{ConfigFault, ConfigKind, broken};

@@ -30,6 +30,9 @@ some_output text rows events book =
     let told = some_text run.inputs (lines_in rows) in
     (told.0, record { rows = rows; book = book; run = run; same = refl; is = told.1 })
 
+inputs_of : List Item → ℕ → Inputs
+inputs_of items rest = record { items = items; rest = rest }
+
 -- events that differ in nothing but cuts have the same inputs
 one_inputs : (a b : Run) → SameButCuts a.all b.all → a.inputs ≡ b.inputs
 one_inputs a b cuts =
@@ -39,8 +42,7 @@ one_inputs a b cuts =
     let rest : a.inputs.rest ≡ b.inputs.rest =
     left_once (connection_at_end None b.all) a.inputs.rest b.inputs.rest
     (rest_by_cuts a.all b.all a.inputs.rest cuts a.rest) b.rest in
-    ap (λ (items : List Item) : Inputs. record { items = items; rest = a.inputs.rest }) items
-    ∙ ap (λ (rest : ℕ) : Inputs. record { items = b.inputs.items; rest = rest }) rest
+    ap (λ (these : List Item). inputs_of these a.inputs.rest) items ∙ ap (inputs_of b.inputs.items) rest
 
 pub one_output : (text : List ℕ) (events others : List Event) (output other : List ℕ) → SameButCuts events others
     → IsOutput text events output → IsOutput text others other → output ≡ other

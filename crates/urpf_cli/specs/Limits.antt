@@ -63,7 +63,8 @@ pub record PullFillsOctets (at : Position) (count : Option ℕ) (events : List E
   pub asks : asks_more count (length items - at.taken) ≡ true
 
 -- a line that is a pull reaches a limit with the events that the feed gave
-pub record LineFills (Fills : Option ℕ → List Event → Type 0) (all : List Event) (line : BookLine) (left : Option (List Event)) : Type 0 where
+pub record LineFills (Fills : Option ℕ → List Event → Type 0) (all : List Event) (line : BookLine)
+    (left : Option (List Event)) : Type 0 where
   pub session : Option ℕ
   pub count : Option ℕ
   pub pulls : line ≡ Pull session count

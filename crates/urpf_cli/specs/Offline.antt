@@ -38,7 +38,8 @@ pub record IsBelowLimits (words : List (List ℕ)) (text : List ℕ) (events : L
   pub below : StaysBelow (lines_in rows) events
 
 -- what the run of these words and a runbook's text over these events comes to
-pub record RanText (words : List (List ℕ)) (text : List ℕ) (all : List Event) (result : Result (Unit {0}) RunFault) (left : Option (List Event)) (old new : Option (List ℕ)) : Type 0 where
+pub record RanText (words : List (List ℕ)) (text : List ℕ) (all : List Event) (result : Result (Unit {0}) RunFault)
+    (left : Option (List Event)) (old new : Option (List ℕ)) : Type 0 where
   pub rows : List (ℕ × BookLine)
   pub opens : Opens words text rows
   pub run : Run

@@ -4,7 +4,8 @@
 ghost use Rattle.std.specs.Prelude.{◌≡◌, ◌≤◌, ℕ, Option, Err, IfOk, length};
 ghost use Rattle.bgp_wire.specs.declared.kinds.MsgKind.{MsgKind};
 ghost use Rattle.urpf_base.specs.RouteUpdates.{RouteUpdate};
-ghost use Rattle.urpf_cli.specs.Session.{FailsBy, IsBadUpdateAt, IsFaultAt, IsUnsupported, IsUnsupportedAt, Leaves, SaysBy};
+ghost use Rattle.urpf_cli.specs.Session.{FailsBy, IsBadUpdateAt, IsFaultAt, IsUnsupported, IsUnsupportedAt, Leaves};
+ghost use Rattle.urpf_cli.specs.Session.{SaysBy};
 
 use as_path::Width;
 use bgp_update::{UpdateFault, UpdateView, read_update};

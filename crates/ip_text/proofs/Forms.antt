@@ -11,22 +11,22 @@ use Rattle.ip_text.proofs.Once.{opens_once}
 use Rattle.ip_text.proofs.Shifts.{number-with_zeros}
 
 -- eight groups and no gap
-record Plain (text : List ℕ) (n : ℕ) : Type 0 where
-  groups : List ℕ
-  eight : length groups ≡ 8
-  number : n ≡ number_from_digits_after 65536 0 groups
-  opens : Opens text groups []
+pub record Plain (text : List ℕ) (n : ℕ) : Type 0 where
+  pub groups : List ℕ
+  pub eight : length groups ≡ 8
+  pub number : n ≡ number_from_digits_after 65536 0 groups
+  pub opens : Opens text groups []
 
 -- fewer groups on both sides of a gap
-record Short (text : List ℕ) (n : ℕ) : Type 0 where
-  left : List ℕ
-  right : List ℕ
-  after : List ℕ
-  fewer : length left + length right ≤ 7
-  number : n ≡ number_from_digits_after 65536 0 left * 2 ^ (16 * (8 - length left))
+pub record Short (text : List ℕ) (n : ℕ) : Type 0 where
+  pub left : List ℕ
+  pub right : List ℕ
+  pub after : List ℕ
+  pub fewer : length left + length right ≤ 7
+  pub number : n ≡ number_from_digits_after 65536 0 left * 2 ^ (16 * (8 - length left))
       + number_from_digits_after 65536 0 right
-  first : Opens text left (58 ∷ 58 ∷ after)
-  last : Opens after right []
+  pub first : Opens text left (58 ∷ 58 ∷ after)
+  pub last : Opens after right []
 
 opens_all : (text groups : List ℕ) → IsGroups text groups → Opens text groups []
 opens_all text groups is = record { front = text; spelled = is; parts = sym (append-nil text); stops = tt }
@@ -58,7 +58,7 @@ short_of text groups n eight number s =
       last = opens_all s.after s.right s.last;
     }
 
-forms : (text : List ℕ) (n : ℕ) → IsV6 text n → Plain text n ⊎ Short text n
+pub forms : (text : List ℕ) (n : ℕ) → IsV6 text n → Plain text n ⊎ Short text n
 forms text n is =
     elim is.spelled [
       | inl all ↦ inl
@@ -66,7 +66,7 @@ forms text n is =
       | inr short ↦ inr (short_of text is.groups n is.eight is.number short)
     ]
 
-no_gap_at_end : (after : List ℕ) → [] ≡ 58 ∷ 58 ∷ after → ⊥
+pub no_gap_at_end : (after : List ℕ) → [] ≡ 58 ∷ 58 ∷ after → ⊥
 no_gap_at_end after e = omega (arith, ap length e)
 
 plain_once : (text : List ℕ) (n m : ℕ) → Plain text n → Plain text m → n ≡ m
@@ -173,7 +173,7 @@ module _ (text : List ℕ) (count value : ℕ) (left : List ℕ)
               last.1 ∙ sym f.number)
         ]
 
-all_of : (text groups rest : List ℕ) → Opens text groups rest → rest ≡ [] → IsGroups text groups
+pub all_of : (text groups rest : List ℕ) → Opens text groups rest → rest ≡ [] → IsGroups text groups
 all_of text groups rest opens none =
     subst (λ (t : List ℕ). IsGroups t groups)
     (sym (opens.parts ∙ ap (λ r. opens.front ++ r) none ∙ append-nil opens.front)) opens.spelled

@@ -2,6 +2,8 @@ pub mod Addresses
 pub mod Decimals
 pub mod Families
 pub mod Forms
+pub mod Found
+pub mod Known
 pub mod Marks
 pub mod Once
 pub mod Printed

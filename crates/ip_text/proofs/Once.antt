@@ -107,7 +107,7 @@ some_once text rest left (g ∷ gs) hs some some_too opens opens_too =
 all_left : (text rest : List ℕ) → Opens text [] rest → text ≡ rest
 all_left text rest opens = opens.parts ∙ ap (λ f. f ++ rest) opens.spelled
 
-ends_here : (text rest : List ℕ) → Opens text [] rest → IsEndOrGap text
+pub ends_here : (text rest : List ℕ) → Opens text [] rest → IsEndOrGap text
 ends_here text rest opens = subst IsEndOrGap (sym (all_left text rest opens)) opens.stops
 
 -- groups up to the end or a gap

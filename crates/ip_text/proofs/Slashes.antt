@@ -9,7 +9,7 @@ use Rattle.ip_text.specs.Groups.{IsGroup, IsGroups, IsShortened}
 use Rattle.ip_text.specs.Texts.{SpellsAddr, dotted}
 use Rattle.ip_text.proofs.Decimals.{decimal_lacks, digit_within}
 
-lacks_cons : (c x : ℕ) (xs : List ℕ) → x ≢ c → LacksByte c xs → LacksByte c (x ∷ xs)
+pub lacks_cons : (c x : ℕ) (xs : List ℕ) → x ≢ c → LacksByte c xs → LacksByte c (x ∷ xs)
 lacks_cons c x xs other more zero less e = other e
 lacks_cons c x xs other more (suc k) less e = more k (omega (arith, less)) e
 

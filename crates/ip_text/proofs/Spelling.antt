@@ -61,7 +61,7 @@ end_or_colon [] s ends = absurd (omega (arith, ap length s.parts))
 end_or_colon (a ∷ []) s ends = ends
 end_or_colon (a ∷ b ∷ cs) s ends = no_colon_first (a ∷ b ∷ cs) (b ∷ cs) s (ap (λ x. x ∷ b ∷ cs) ends.0)
 
-gap_is : (rest : List ℕ) → IsEndOrGap rest → (rest ≡ []) ⊎ ((after : List ℕ) × (rest ≡ 58 ∷ 58 ∷ after))
+pub gap_is : (rest : List ℕ) → IsEndOrGap rest → (rest ≡ []) ⊎ ((after : List ℕ) × (rest ≡ 58 ∷ 58 ∷ after))
 gap_is [] ends = inl refl
 gap_is (a ∷ []) ends = absurd ends
 gap_is (a ∷ b ∷ cs) ends = inr (cs, ap (λ x. x ∷ b ∷ cs) ends.0 ∙ ap (λ x. 58 ∷ x ∷ cs) ends.1)

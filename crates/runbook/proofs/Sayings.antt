@@ -17,7 +17,7 @@ all_is_no_number n within is =
     let lacks = decimal_lacks n 97 small (λ r. omega arith) in
     lacks 0 (subst (λ t. 0 < length t) is (omega arith)) (subst (λ t. slice_index t 0 ≡ 97) is refl)
 
-tail : {X : Type 0} {x y : X} {xs ys : List X} → x ∷ xs ≡ y ∷ ys → xs ≡ ys
+pub tail : {X : Type 0} {x y : X} {xs ys : List X} → x ∷ xs ≡ y ∷ ys → xs ≡ ys
 tail e = cc
 
 -- a pull of a session and `all`, as the words are read, is the only thing that they say
@@ -39,13 +39,13 @@ same_number : (m n : ℕ) → m ≤ 1000000000 → n ≤ 1000000000 → decimal 
 same_number m n within within_too e = decimal_injective m n (omega arith) (omega arith) e
 
 -- words of three are the same one by one
-second : {a b c x y z : List ℕ} → a ∷ b ∷ c ∷ [] ≡ x ∷ y ∷ z ∷ [] → b ≡ y
+pub second : {a b c x y z : List ℕ} → a ∷ b ∷ c ∷ [] ≡ x ∷ y ∷ z ∷ [] → b ≡ y
 second e = cc
 
-third : {a b c x y z : List ℕ} → a ∷ b ∷ c ∷ [] ≡ x ∷ y ∷ z ∷ [] → c ≡ z
+pub third : {a b c x y z : List ℕ} → a ∷ b ∷ c ∷ [] ≡ x ∷ y ∷ z ∷ [] → c ≡ z
 third e = cc
 
-first : {a x : List ℕ} {more others : List (List ℕ)} → a ∷ more ≡ x ∷ others → a ≡ x
+pub first : {a x : List ℕ} {more others : List (List ℕ)} → a ∷ more ≡ x ∷ others → a ≡ x
 first e = cc
 
 pull_is_no_publish : codes "pull" ≡ codes "publish" → ⊥

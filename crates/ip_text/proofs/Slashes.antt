@@ -1,5 +1,6 @@
 -- An address has no slash in its text.
-use Rattle.std.proofs.Common.{◌≡◌, ◌≢◌, ℕ, zero, suc, ◌/◌, ◌%◌, ◌<◌, ◌^◌, ◌⊎◌, inl, inr, List, [], ◌∷◌, ◌++◌, get_or, sym, subst, arith}
+use Rattle.std.proofs.Common.{◌≡◌, ◌≢◌, ℕ, zero, suc, ◌/◌, ◌%◌, ◌<◌, ◌^◌, ◌⊎◌, inl, inr, List, [], ◌∷◌, ◌++◌, get_or}
+use Rattle.std.proofs.Common.{sym, subst, arith}
 use Rattle.std.specs.Char.{digit_value}
 use Rattle.std.specs.Prelude.{decimal}
 use Rattle.std.specs.Str.Iter.{LacksByte}

@@ -35,7 +35,7 @@ pub fn joined(rt: &(impl Abort + AllocGlobal), messages: &[&[u8]]) -> Vec<u8> {
     stream
 }
 
-/// Appends an event to both feeds in memory. No octets are no event.
+/// Appends an event to both feeds in memory. No octets are no event, and neither are too many.
 fn append(sure: &mut SureFeed, mem: &mut MemFeed, event: Event<'_>) -> Result<(), OutOfMemory> {
     match event {
         Event::Up => {
@@ -79,7 +79,7 @@ pub fn mem_feed(rt: &(impl Abort + AllocGlobal), events: &[Event<'_>], fails: &[
 }
 
 /// Numbers that are owned.
-pub fn copied(rt: &(impl Abort + AllocGlobal), numbers: &[u64]) -> Vec<u64> {
+fn copied(rt: &(impl Abort + AllocGlobal), numbers: &[u64]) -> Vec<u64> {
     Vec::from_slice(rt.alloc(), numbers).expect(rt, "memory")
 }
 
@@ -95,7 +95,7 @@ pub fn sink(rt: &(impl Abort + AllocGlobal), fails: &[u64]) -> MemSink {
     MemSink::new(room, copied(rt, fails))
 }
 
-/// Appends an event in the trace format. Octets are no event where they are too many.
+/// Appends an event in the trace format. Too many octets are no event.
 fn append_trace(text: &mut Vec<u8>, event: Event<'_>) -> Result<(), AllocError> {
     match event {
         Event::Up => text.extend_from_slice(&[1]),

@@ -5,9 +5,11 @@ pub mod HistoryLaws
 pub mod ItemLaws
 pub mod ItemStepLaws
 pub mod Missing
+pub mod PullEnds
 pub mod PullLaws
 pub mod Routes
 pub mod RunLaws
 pub mod SomeRun
+pub mod TurnEnds
 pub mod TurnLaws
 pub mod Walks

@@ -19,7 +19,8 @@ use Rattle.urpf_cli.specs.RunText.{Position, opening, next_position, position_af
 use Rattle.urpf_cli.specs.Runs.{AreTexts, IsAt, NamesSession, RanBook, RanLine, Reaches, Run, StopsAtLimit, TookAll}
 use Rattle.urpf_cli.specs.Runs.{total}
 use Rattle.urpf_cli.proofs.Limiting.{none_filled, pull_limited}
-use Rattle.urpf_cli.proofs.Pulling.{at_within, front_none, front_taken, pull_front, pulls_well}
+use Rattle.urpf_cli.proofs.Pulling.{pull_front, pulls_well}
+use Rattle.urpf_cli.proofs.Publishing.{at_within, front_none, front_taken}
 use Rattle.urpf_cli.proofs.Runs.{closing_front, closing_wrote}
 use Rattle.urpf_cli.proofs.SomeText.{some_gives}
 

@@ -6,10 +6,13 @@ use Rattle.control_core.specs.Pulls.{EndsBy, asks_more, reset_text}
 use Rattle.control_core.specs.declared.limits.RunFault.{RunFault}
 use Rattle.control_core.specs.declared.limits.RunFault.TheVariants.{ItemLimit}
 use Rattle.control_core.specs.Turns.{HadMemory, IsTurnFault}
-use Rattle.control_core.proofs.PullLaws.{so_far_begins, so_far_none, so_far_item, one_more_item, stopped_at}
-use Rattle.control_core.proofs.PullLaws.{pulled_so_far, pulled_cut, pulled_end, pulled_until, takes_none, takes_same}
-use Rattle.control_core.proofs.PullLaws.{takes_more, takes_until, stays_until, took_end, TookEnd, ends_at_end}
-use Rattle.control_core.proofs.PullLaws.{had_memory, end_had, ends_until}
+use Rattle.control_core.proofs.PullLaws.{so_far_begins, so_far_none, so_far_item, one_more_item}
+use Rattle.control_core.proofs.PullEnds.{stopped_at}
+use Rattle.control_core.proofs.PullLaws.{pulled_so_far, pulled_cut, pulled_end}
+use Rattle.control_core.proofs.PullEnds.{pulled_until, takes_none, takes_same}
+use Rattle.control_core.proofs.PullLaws.{TookEnd}
+use Rattle.control_core.proofs.PullEnds.{takes_more, takes_until, stays_until, took_end, ends_at_end}
+use Rattle.control_core.proofs.PullEnds.{had_memory, end_had, ends_until}
 use Rattle.control_core.proofs.pulling.pull_items.Goals as goal
 
 pub loop-count-init : goal.loop-count-init

@@ -1,5 +1,5 @@
 use Rattle.runbook.specs.declared.lines.BookLine.TheVariants.{Check}
-use Rattle.urpf_cli.proofs.Pulling.{check_gives}
+use Rattle.urpf_cli.proofs.Publishing.{check_gives}
 use Rattle.urpf_cli.proofs.RanLines.{line_ran}
 use Rattle.urpf_cli.proofs.run_line.check.Goals as goal
 

@@ -1,5 +1,5 @@
 use Rattle.runbook.specs.declared.lines.BookLine.TheVariants.{Publish}
-use Rattle.urpf_cli.proofs.Pulling.{published_at, published_gives}
+use Rattle.urpf_cli.proofs.Publishing.{published_at, published_gives}
 use Rattle.urpf_cli.proofs.RanLines.{line_ran, line_starved}
 use Rattle.urpf_cli.proofs.run_line.publish.Goals as goal
 

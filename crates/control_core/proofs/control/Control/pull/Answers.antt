@@ -1,5 +1,5 @@
 use Rattle.control_core.specs.Peers.{peer_of}
-use Rattle.control_core.proofs.PullLaws.{pull_after_end}
+use Rattle.control_core.proofs.PullEnds.{pull_after_end}
 use Rattle.control_core.proofs.control.Control.pull.Goals as goal
 
 pub returns-then-self-2-clause-pull : goal.returns-then-self-2-clause-pull

@@ -5,8 +5,9 @@ use Rattle.control_core.specs.Items.{IsRest}
 use Rattle.control_core.specs.Peers.{peer_of}
 use Rattle.control_core.specs.Turns.{Shows}
 use Rattle.control_core.specs.declared.peering.Turn.{Turn}
-use Rattle.control_core.proofs.TurnLaws.{counts_item, emptied, gave_none, no_event, rest_is, stands_unfilled}
-use Rattle.control_core.proofs.TurnLaws.{stands_with_octets, turned_item, turned_none}
+use Rattle.control_core.proofs.TurnEnds.{counts_item, emptied, gave_none, no_event, rest_is, stands_unfilled}
+use Rattle.control_core.proofs.TurnLaws.{stands_with_octets}
+use Rattle.control_core.proofs.TurnEnds.{turned_item, turned_none}
 use Rattle.control_core.proofs.peering.Peering.ask.Goals as goal
 
 pub returns-then-room-eq0-clause-stands : goal.returns-then-room-eq0-clause-stands

@@ -1,6 +1,6 @@
 use Rattle.std.proofs.Common.{refl}
 use Rattle.control_core.specs.Peers.{peer_of}
-use Rattle.control_core.proofs.TurnLaws.{counts_item, stands_alike, turned_held}
+use Rattle.control_core.proofs.TurnEnds.{counts_item, stands_alike, turned_held}
 use Rattle.control_core.proofs.peering.Peering.turn.Goals as goal
 
 pub returns-in-Whole-clause-stands : goal.returns-in-Whole-clause-stands

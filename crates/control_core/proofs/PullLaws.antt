@@ -280,8 +280,8 @@ emptied_through (Some events) (Some others) new gave told is = is
 
 -- what a sink took of the end line
 abbrev pub TookEnd : Result (Unit {0}) RunFault → Option (List ℕ) → Option (List ℕ) → List ℕ → Type 0
-pub TookEnd (Ok done) old new line = Appends old new line
-pub TookEnd (Err fault) old new line =
+TookEnd (Ok done) old new line = Appends old new line
+TookEnd (Err fault) old new line =
     (fault ≡ WriteFault) × ((n : ℕ) × (n ≤ length line) × Appends old new (take n line))
 
 wrote_end : (result : Result (Unit {0}) RunFault) (IsText : List ℕ → Type 0) (old mid new : Option (List ℕ))

@@ -13,7 +13,7 @@ use Rattle.urpf_cli.proofs.OneText.{one_text}
 use Rattle.urpf_cli.proofs.SomeText.{some_text}
 
 -- the run over these events
-run_over : List Event → Run
+abbrev run_over : List Event → Run
 run_over events =
     let rest = some_rest (connection_at_end None events) in
     record {
@@ -30,7 +30,7 @@ some_output text rows events book =
     let told = some_text run.inputs (lines_in rows) in
     (told.0, record { rows = rows; book = book; run = run; same = refl; is = told.1 })
 
-inputs_of : List Item → ℕ → Inputs
+abbrev inputs_of : List Item → ℕ → Inputs
 inputs_of items rest = record { items = items; rest = rest }
 
 -- events that differ in nothing but cuts have the same inputs

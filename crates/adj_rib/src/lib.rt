@@ -7,6 +7,3 @@ mod rib;
 
 pub use laws::{map_laws, order_laws};
 pub use rib::AdjRib;
-
-#[cfg(test)]
-mod tests;

@@ -10,6 +10,3 @@ mod source;
 
 pub use fault::HeadFault;
 pub use source::source_of;
-
-#[cfg(test)]
-mod tests;

@@ -36,7 +36,8 @@ long_own (V6 a) small k covers = (
   k.within,
   λ i. record {
     addr = V6
-        ((sym k.zeros ∙ cleared-agree 128 k.len (k.high * 2 ^ 64 + k.low) a k.within (omega (arith, k.small_high, k.small_low)) small covers) i);
+        ((sym k.zeros ∙ cleared-agree 128 k.len (k.high * 2 ^ 64 + k.low) a k.within
+        (omega (arith, k.small_high, k.small_low)) small covers) i);
     len = k.len;
   },
 )

@@ -123,7 +123,8 @@ module _ {A B K X : Type 0} (R : K → K → Ordering) (left : A → K) (right :
         → find R (right q) (joined left right xs ys) ≡ find (on R right) q ys
     find-right q [] ys = find-under R right q ys
     find-right q (x ∷ xs) ys =
-        ap (λ o. cond (is_eq o) (Some x.1) (find R (right q) (joined left right xs ys))) (back x.0 q) ∙ find-right q xs ys
+        ap (λ o. cond (is_eq o) (Some x.1) (find R (right q) (joined left right xs ys))) (back x.0 q)
+        ∙ find-right q xs ys
 
     put_first-right : (k : A) (v : X) (ys : List (B × X))
         → put R (left k) v (under right ys) ≡ (left k, v) ∷ under right ys

@@ -16,6 +16,3 @@ pub use beside::Beside;
 pub use laws::{beside_laws, map_laws, order_laws};
 pub use map::PrefixMap;
 pub use pairs::Pairs;
-
-#[cfg(test)]
-mod tests;

@@ -48,6 +48,17 @@ abbrev pub waited : Bool → State → Outcome
 waited true stay = ended (Fault HOLD_TIMER_EXPIRED UNSPECIFIC)
 waited false stay = (stay, Nothing)
 
+-- what ends a session whose transport is up, whatever its state (RFC 4271, section 8.2.2)
+abbrev pub interruption : Item → Option Outcome
+interruption Up = Some (opened, Reset Closed)
+interruption Down = Some (ended Closed)
+interruption (HeaderFault sub) = Some (ended (Fault MESSAGE_HEADER_ERROR sub))
+interruption (Message Notification body) = Some (ended (notice body.now))
+interruption (Message Open body) = None
+interruption (Message Update body) = None
+interruption (Message Keepalive body) = None
+interruption (Elapsed seconds) = None
+
 -- an OPEN with a fault ends the session, and one without a fault confirms it (RFC 4271, sections 6.2 and 8.2.2)
 abbrev pub after_open : SessionConfig → OpenSeen → Option ℕ → Outcome
 after_open config seen (Some sub) = ended (Fault OPEN_MESSAGE_ERROR sub)

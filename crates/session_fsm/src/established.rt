@@ -6,10 +6,10 @@ ghost use Rattle.session_fsm.specs.Items.{IsWhole};
 ghost use Rattle.session_fsm.specs.Table as table;
 
 use crate::items::{Effect, Item};
-use crate::outcomes::{ended, notice, opened, unexpected, waited};
+use crate::outcomes::{ended, interruption, unexpected, waited};
 use crate::states::{Peer, State, Timer};
 use bgp_update::{UPDATE_MESSAGE_ERROR, read_update};
-use bgp_wire::{MESSAGE_HEADER_ERROR, MsgKind};
+use bgp_wire::MsgKind;
 use urpf_base::{ResetCause, SessionConfig};
 
 /// Routes are exchanged.
@@ -22,21 +22,20 @@ pub fn in_established<'a>(
     requires { IsWhole item }
     ensures { table.Step config.now (Established timer peer) item.entry result }
 {
+    if let Some(outcome) = interruption(item) {
+        return outcome;
+    }
     match item {
-        Item::Up => (opened(), Effect::Reset(ResetCause::Closed)),
-        Item::Down => ended(ResetCause::Closed),
-        Item::HeaderFault(sub) => ended(ResetCause::Fault(MESSAGE_HEADER_ERROR, sub)),
         Item::Elapsed(seconds) => waited(
             timer.expires(seconds),
             State::Established(timer.later(seconds), peer),
         ),
-        Item::Message(MsgKind::Notification, body) => ended(notice(body)),
-        Item::Message(MsgKind::Open, _) => unexpected(),
-        Item::Message(MsgKind::Update, body) => return after_update(timer, peer, body),
+        Item::Message(MsgKind::Update, body) => after_update(timer, peer, body),
         Item::Message(MsgKind::Keepalive, _) => (
             State::Established(timer.restarted(), peer),
             Effect::Nothing,
         ),
+        _ => unexpected(),
     }
 }
 

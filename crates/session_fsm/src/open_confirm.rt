@@ -5,10 +5,10 @@ ghost use Rattle.session_fsm.specs.Items.{IsWhole};
 ghost use Rattle.session_fsm.specs.Table as table;
 
 use crate::items::{Effect, Item};
-use crate::outcomes::{ended, notice, opened, unexpected, waited};
+use crate::outcomes::{interruption, unexpected, waited};
 use crate::states::{Peer, State, Timer};
-use bgp_wire::{MESSAGE_HEADER_ERROR, MsgKind};
-use urpf_base::{ResetCause, SessionConfig};
+use bgp_wire::MsgKind;
+use urpf_base::SessionConfig;
 
 /// The first KEEPALIVE of the peer is waited for.
 pub fn in_open_confirm<'a>(
@@ -20,20 +20,18 @@ pub fn in_open_confirm<'a>(
     requires { IsWhole item }
     ensures { table.Step config.now (OpenConfirm timer peer) item.entry result }
 {
+    if let Some(outcome) = interruption(item) {
+        return outcome;
+    }
     match item {
-        Item::Up => (opened(), Effect::Reset(ResetCause::Closed)),
-        Item::Down => ended(ResetCause::Closed),
-        Item::HeaderFault(sub) => ended(ResetCause::Fault(MESSAGE_HEADER_ERROR, sub)),
         Item::Elapsed(seconds) => waited(
             timer.expires(seconds),
             State::OpenConfirm(timer.later(seconds), peer),
         ),
-        Item::Message(MsgKind::Notification, body) => ended(notice(body)),
-        Item::Message(MsgKind::Open, _) => unexpected(),
-        Item::Message(MsgKind::Update, _) => unexpected(),
         Item::Message(MsgKind::Keepalive, _) => (
             State::Established(timer.restarted(), peer),
             Effect::Advanced,
         ),
+        _ => unexpected(),
     }
 }

@@ -8,11 +8,11 @@ ghost use Rattle.session_fsm.specs.Items.{IsWhole};
 ghost use Rattle.session_fsm.specs.Table as table;
 
 use crate::items::{Effect, Item};
-use crate::outcomes::{ended, notice, opened, unexpected, waited};
+use crate::outcomes::{ended, interruption, unexpected, waited};
 use crate::states::{Peer, State, Timer};
 use as_path::Width;
 use bgp_open::{OPEN_MESSAGE_ERROR, OpenSeen, read_open};
-use bgp_wire::{MESSAGE_HEADER_ERROR, MsgKind};
+use bgp_wire::MsgKind;
 use urpf_base::{ResetCause, SessionConfig};
 
 /// The OPEN of the peer is waited for.
@@ -20,18 +20,16 @@ pub fn in_open_sent<'a>(config: &SessionConfig, timer: Timer, item: Item<'a>) ->
     requires { IsWhole item }
     ensures { table.Step config.now (OpenSent timer) item.entry result }
 {
+    if let Some(outcome) = interruption(item) {
+        return outcome;
+    }
     match item {
-        Item::Up => (opened(), Effect::Reset(ResetCause::Closed)),
-        Item::Down => ended(ResetCause::Closed),
-        Item::HeaderFault(sub) => ended(ResetCause::Fault(MESSAGE_HEADER_ERROR, sub)),
         Item::Elapsed(seconds) => waited(
             timer.expires(seconds),
             State::OpenSent(timer.later(seconds)),
         ),
-        Item::Message(MsgKind::Notification, body) => ended(notice(body)),
         Item::Message(MsgKind::Open, body) => after_open(config, body),
-        Item::Message(MsgKind::Update, _) => unexpected(),
-        Item::Message(MsgKind::Keepalive, _) => unexpected(),
+        _ => unexpected(),
     }
 }
 

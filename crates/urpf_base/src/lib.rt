@@ -33,6 +33,3 @@ pub use reading::{TextFault, read_text};
 pub use sessions::{ResetCause, SessionConfig};
 pub use verdicts::Verdict;
 pub use writing::write_all;
-
-#[cfg(test)]
-mod tests;

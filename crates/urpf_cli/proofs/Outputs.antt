@@ -5,7 +5,8 @@ use Rattle.runbook.specs.declared.lines.BookLine.{BookLine}
 use Rattle.runbook.specs.Book.{IsBook}
 use Rattle.runbook.proofs.BookLaws.{one_book}
 use Rattle.control_core.specs.Items.{AreItems, IsRest, Item, SameButCuts, connection_at_end}
-use Rattle.control_core.proofs.ItemLaws.{are_items, items_after, items_by_cuts, left_once, only_items, rest_by_cuts, some_rest}
+use Rattle.control_core.proofs.ItemLaws.{are_items, items_after, items_by_cuts, left_once, only_items}
+use Rattle.control_core.proofs.ItemLaws.{rest_by_cuts, some_rest}
 use Rattle.urpf_cli.specs.RunText.{Inputs, IsRunText}
 use Rattle.urpf_cli.specs.Runs.{Run, lines_in}
 use Rattle.urpf_cli.specs.Offline.{IsOutput}

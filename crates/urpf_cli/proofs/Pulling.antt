@@ -27,7 +27,8 @@ use Rattle.urpf_cli.proofs.Knowing.{known, known_all, left_after, all_parts, oct
 use Rattle.urpf_cli.proofs.Leading.{at_most, leads, most_taken, told_end}
 
 -- what a run knows after a pull, whatever it ended with but want of memory
-pub record Further (run : Run) (at : Position) (old new : PeerState) (left : Option (List Event)) (IsText : List ℕ → Type 0) : Type 0 where
+pub record Further (run : Run) (at : Position) (old new : PeerState) (left : Option (List Event))
+    (IsText : List ℕ → Type 0) : Type 0 where
   pub gave : List Event
   pub rest : List Event
   pub left_is : left ≡ Some rest
@@ -130,7 +131,8 @@ met_below run at count limits old new gave rest effects ended few octets own sta
     let count : octet_count run.all ≡ octet_count gave + octet_count rest = octets_parted run.all gave rest same in
     let none_left : octet_count rest ≡ 0 = ap octet_count (none met) in
     (omega (arith, items, stands.counted, full met), omega (arith, given, stands.octets, count, none_left))
-met_below run at count limits old new gave rest effects ended few octets own stands same full none (inr (unmet, inr on)) is = let clash : true ≡ false = sym is ∙ on.0 in cc
+met_below run at count limits old new gave rest effects ended few octets own stands same full none (inr (unmet, inr on)) is =
+    let clash : true ≡ false = sym is ∙ on.0 in cc
 
 -- where a pull that ended well leads, and what it wrote
 pub pulls_well : (run : Run) (at : Position) (count : Option ℕ) (old new : ControlState)

@@ -115,16 +115,11 @@ fn append_trace(text: &mut Vec<u8>, event: Event<'_>) -> Result<(), AllocError> 
     }
 }
 
-/// A feed over a trace of these events, and then of these octets.
-pub fn trace_feed(
-    rt: &(impl Abort + AllocGlobal),
-    events: &[Event<'_>],
-    behind: &[u8],
-) -> TraceFeed<MemSource> {
+/// A feed over a trace of these events.
+pub fn trace_feed(rt: &(impl Abort + AllocGlobal), events: &[Event<'_>]) -> TraceFeed<MemSource> {
     let mut text = Vec::new(rt.alloc());
     for event in events {
         append_trace(&mut text, *event).expect(rt, "memory");
     }
-    text.extend_from_slice(behind).expect(rt, "memory");
     TraceFeed::new(MemSource::new(text, Vec::new(rt.alloc())))
 }

@@ -64,52 +64,9 @@ pub fn is_run_over(
     text: &str,
 ) {
     let (mut sure, mut mem) = feeds(rt, events, &[]);
-    let mut trace = trace_feed(rt, events, &[]);
+    let mut trace = trace_feed(rt, events);
     let text = headed(rt, text);
     ends(rt, name, book, &mut sure, &[], Status::Done, text.as_str());
     ends(rt, name, book, &mut mem, &[], Status::Done, text.as_str());
     ends(rt, name, book, &mut trace, &[], Status::Done, text.as_str());
-}
-
-/// What comes of a session.
-#[derive(Clone, Copy)]
-pub struct Row<'a> {
-    pub name: &'a str,
-    pub events: &'a [Event<'a>],
-    /// The lines of its resets.
-    pub resets: &'a str,
-    pub items: u64,
-    pub rest: u64,
-    /// How many routes are left. The one that there may be covers 198.51.100.9.
-    pub routes: u64,
-}
-
-/// Takes all, publishes, and checks the source that the route covers.
-pub const BOOK: &str = "pull 0 all\npublish\ncheck 0 198.51.100.9\n";
-
-/// That all of this comes of each session that is pulled whole and then published.
-pub fn come(rt: &(impl Abort + AllocGlobal), rows: &[Row<'_>]) {
-    for row in rows {
-        comes(rt, row);
-    }
-}
-
-/// That all of this comes of a session that is pulled whole and then published.
-fn comes(rt: &(impl Abort + AllocGlobal), row: &Row<'_>) {
-    let verdict = if row.routes == 0 { "drop" } else { "pass" };
-    let Row {
-        resets,
-        items,
-        rest,
-        routes,
-        ..
-    } = row;
-    let text = format!(in rt.alloc();
-        "{resets}end 0 items {items} rest {rest}\n\
-        publish 1 edits 0 cells {routes} items {items}\n\
-        check 0 198.51.100.9 {verdict} 1\n\
-        done publications 1 packets 0\n"
-    )
-    .expect(rt, "memory");
-    is_run_over(rt, row.name, BOOK, row.events, text.as_str());
 }

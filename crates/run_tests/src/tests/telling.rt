@@ -4,26 +4,13 @@ use runbook::BookKind;
 use std::process::Abort;
 use urpf_base::{Addr, Line};
 use urpf_cli::{
-    Command, Object, Status, asks_offline, assigned_numbers, exit_code, one_run_text, put_status,
+    Command, Status, asks_offline, assigned_numbers, exit_code, one_run_text, put_status,
     read_command,
 };
 
-/// Statuses, the line of each on standard error, and the number that the program ends with.
-const STATUSES: [(Status, &str, u8); 15] = [
-    (Status::Done, "", 0),
-    (
-        Status::Usage,
-        "urpf: usage: check SESSION SOURCE | offline CONFIG BOOK PAIRS S... | live CONFIG BOOK PAIRS S... : P...\n",
-        2,
-    ),
-    (
-        Status::BadBook {
-            line: 2,
-            kind: BookKind::Syntax,
-        },
-        "urpf: book line 2 Syntax\n",
-        4,
-    ),
+/// Statuses that no file brings about, the line of each on standard error, and the number that the
+/// program ends with.
+const STATUSES: [(Status, &str, u8); 4] = [
     (
         Status::BadBook {
             line: 4_294_967_295,
@@ -32,31 +19,6 @@ const STATUSES: [(Status, &str, u8); 15] = [
         "urpf: book line 4294967295 Session\n",
         4,
     ),
-    (
-        Status::BadBook {
-            line: 1,
-            kind: BookKind::Iface,
-        },
-        "urpf: book line 1 Iface\n",
-        4,
-    ),
-    (Status::TooLong(Object::Book), "urpf: book too long\n", 7),
-    (
-        Status::TooLong(Object::Stream),
-        "urpf: stream too long\n",
-        7,
-    ),
-    (
-        Status::ReadFault(Object::Stream),
-        "urpf: read fault on stream\n",
-        8,
-    ),
-    (
-        Status::ReadFault(Object::Session(0)),
-        "urpf: read fault on session 0\n",
-        8,
-    ),
-    (Status::WriteFault, "urpf: write fault\n", 9),
     (
         Status::ItemLimit { session: 0 },
         "urpf: session 0 at item limit\n",
@@ -68,20 +30,6 @@ const STATUSES: [(Status, &str, u8); 15] = [
         },
         "urpf: session 4294967295 at octet limit\n",
         11,
-    ),
-    (
-        Status::BadSession {
-            code: 1,
-            sub: 2,
-            place: 3,
-        },
-        "urpf: message 3 fault 1 2\n",
-        13,
-    ),
-    (
-        Status::Unsupported { place: 4 },
-        "urpf: message 4 not supported\n",
-        14,
     ),
     (Status::OutOfMemory, "urpf: out of memory\n", 16),
 ];
@@ -95,7 +43,7 @@ fn is_told(rt: &impl Abort, status: Status, text: &str, exit: u8) {
 }
 
 #[test]
-fn each_status_has_its_text_and_its_number(rt: HostRuntime) {
+fn a_status_has_its_text_and_its_number(rt: HostRuntime) {
     assigned_numbers();
     one_run_text();
     for (status, text, exit) in STATUSES {

@@ -23,8 +23,8 @@ returns-in-Err-take_lines-clause-ran g c = λ run left.
     let ran =
     c.in-Err-take_lines.ensures.ran run
     (opened_at run c.in-Ok.control (g.F.Feed.left c.args.feed.now) c.in-Ok.ensures left) in (
-      lines_front run.inputs (lines_in c.args.book.now) (g.K.Sink.held c.args.out.now) (g.K.Sink.held c.open_run.new.out)
-          (g.K.Sink.held c.take_lines.new.out) c.in_default.ensures.ok ran.0,
+      lines_front run.inputs (lines_in c.args.book.now) (g.K.Sink.held c.args.out.now)
+          (g.K.Sink.held c.open_run.new.out) (g.K.Sink.held c.take_lines.new.out) c.in_default.ensures.ok ran.0,
       ran.1,
     )
 

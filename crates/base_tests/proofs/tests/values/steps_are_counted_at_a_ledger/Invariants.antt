@@ -1,4 +1,4 @@
-use Rattle.urpf_base.proofs.tests.steps_are_counted_at_a_ledger.Given as goal
+use Rattle.base_tests.proofs.tests.values.steps_are_counted_at_a_ledger.Given as goal
 
 abbrev pub ghosts-two_steps : goal.ghosts-two_steps
 ghosts-two_steps a = record { name = a.blank.name; parts = a.blank.parts }

@@ -1,20 +1,18 @@
-//! What no clause says: worked prefixes, and each of the other calls once.
+//! Prefixes that were worked by hand, and each of the other calls of urpf_base once.
 ghost use Rattle.std.specs.Prelude.{◌≡◌, ◌<◌};
 
-use crate::{
+use std::marker::Brand;
+use std::sync::ledger::{Blank, Ledger};
+use urpf_base::{
     Addr, Cell, CellChange, Changes, IfaceId, Kind, Mask, Mode, Prefix, Role, Steps,
     order_of_prefixes,
 };
-use std::marker::Brand;
-use std::sync::ledger::{Blank, Ledger};
-use std::test::Fail;
 
 #[test]
-fn a_prefix_of_all_bits_covers_one_address(rt: HostRuntime) -> Result<(), Fail> {
-    let one = Prefix::new(Addr::V6(1), 128).ok_or("128 bits fit")?;
+fn a_prefix_of_all_bits_covers_one_address(rt: HostRuntime) {
+    let one = Prefix::new(Addr::V6(1), 128).expect(&rt, "fits");
     assert!(rt; one.covers(&Addr::V6(1)));
     assert!(rt; !one.covers(&Addr::V6(0)));
-    Ok(())
 }
 
 #[test]
@@ -24,16 +22,15 @@ fn a_length_past_the_address_is_refused(rt: HostRuntime) {
 }
 
 #[test]
-fn prefixes_are_ordered_by_family_address_and_length(rt: HostRuntime) -> Result<(), Fail> {
-    let all = Prefix::new(Addr::V4(0), 0).ok_or("fits")?;
-    let longer = Prefix::new(Addr::V4(0), 8).ok_or("fits")?;
-    let later = Prefix::new(Addr::V4(0x0A00_0000), 8).ok_or("fits")?;
-    let all_of_v6 = Prefix::new(Addr::V6(0), 0).ok_or("fits")?;
+fn prefixes_are_ordered_by_family_address_and_length(rt: HostRuntime) {
+    let all = Prefix::new(Addr::V4(0), 0).expect(&rt, "fits");
+    let longer = Prefix::new(Addr::V4(0), 8).expect(&rt, "fits");
+    let later = Prefix::new(Addr::V4(0x0A00_0000), 8).expect(&rt, "fits");
+    let all_of_v6 = Prefix::new(Addr::V6(0), 0).expect(&rt, "fits");
     assert!(rt; all < longer, "a shorter prefix comes first");
     assert!(rt; longer < later, "a lesser address comes first");
     assert!(rt; later < all_of_v6, "IPv4 comes first");
     order_of_prefixes();
-    Ok(())
 }
 
 fn two_steps<L: Ledger>(blank: Blank)
@@ -52,21 +49,19 @@ fn steps_are_counted_at_a_ledger() {
 }
 
 #[test]
-fn interfaces_have_numbers_below_64(rt: HostRuntime) -> Result<(), Fail> {
+fn interfaces_have_numbers_below_64(rt: HostRuntime) {
     assert_eq!(rt; IfaceId::new(64), None);
-    assert_eq!(rt; IfaceId::new(63).ok_or("fits")?.number(), 63);
-    Ok(())
+    assert_eq!(rt; IfaceId::new(63).expect(&rt, "fits").number(), 63);
 }
 
 #[test]
-fn a_mask_is_a_set_of_interfaces(rt: HostRuntime) -> Result<(), Fail> {
-    let first = IfaceId::new(0).ok_or("fits")?;
-    let last = IfaceId::new(63).ok_or("fits")?;
+fn a_mask_is_a_set_of_interfaces(rt: HostRuntime) {
+    let first = IfaceId::new(0).expect(&rt, "fits");
+    let last = IfaceId::new(63).expect(&rt, "fits");
     let both = Mask::empty().with(first).union(Mask::empty().with(last));
     assert!(rt; both.has(first) && both.has(last));
     assert!(rt; !both.without(first).has(first) && both.without(first).has(last));
     assert!(rt; both.without(first).without(last).is_empty());
-    Ok(())
 }
 
 #[test]
@@ -84,16 +79,17 @@ fn algorithms_are_for_customers(rt: HostRuntime) {
 }
 
 #[test]
-fn changes_are_kept_in_their_order(rt: HostRuntime) -> Result<(), Fail> {
-    let prefix = Prefix::new(Addr::V4(0xC633_6400), 24).ok_or("fits")?;
+fn changes_are_kept_in_their_order(rt: HostRuntime) {
+    let prefix = Prefix::new(Addr::V4(0xC633_6400), 24).expect(&rt, "fits");
     let cell = Cell {
         f: Mask::empty(),
         a: Mask::empty(),
         z: true,
     };
     let mut changes = Changes::new(rt.alloc());
-    changes.push(CellChange { prefix, cell }).or(Err("memory"))?;
+    changes
+        .push(CellChange { prefix, cell })
+        .expect(&rt, "memory");
     assert_eq!(rt; changes.items().len(), 1);
     assert!(rt; changes.items()[0].cell.z);
-    Ok(())
 }

@@ -1,5 +1,5 @@
 //! Heads of packets with their source, and heads without one.
-use crate::{HeadFault, source_of};
+use ip_head::{HeadFault, source_of};
 use std::process::Abort;
 use urpf_base::Addr;
 

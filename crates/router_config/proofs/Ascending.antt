@@ -9,14 +9,14 @@ use Rattle.router_config.specs.declared.edits.Edit.{Edit}
 use Rattle.router_config.specs.Edits.{edited, edited_row, target}
 use Rattle.router_config.specs.Kinds.{Row, AllBelow, AreIncreasing, IsAscending}
 
-abbrev numbers : List Row → List ℕ
+abbrev pub numbers : List Row → List ℕ
 numbers rows = map (λ row. row.0) rows
 
-edited_row-number : (edit : Edit) (row : Row) → (edited_row edit row).0 ≡ row.0
+pub edited_row-number : (edit : Edit) (row : Row) → (edited_row edit row).0 ≡ row.0
 edited_row-number edit row =
     elim (cases_Bool (row.0 == target edit)) [ inl same ↦ rw same refl | inr other ↦ rw other refl ]
 
-numbers-edited : (edit : Edit) (rows : List Row) → numbers (edited edit rows) ≡ numbers rows
+pub numbers-edited : (edit : Edit) (rows : List Row) → numbers (edited edit rows) ≡ numbers rows
 numbers-edited edit [] = refl
 numbers-edited edit (row ∷ rows) = rw (edited_row-number edit row, numbers-edited edit rows) refl
 

@@ -24,7 +24,7 @@ one_more true fault both first second same = same
 one_more false fault both first second same = refl
 
 -- the fault of two lists of rules is that of the first, and where it is kept that of the second
-first_broken-append : (xs ys : List Rule) → first_broken (xs ++ ys) ≡ or_else (first_broken xs) (first_broken ys)
+pub first_broken-append : (xs ys : List Rule) → first_broken (xs ++ ys) ≡ or_else (first_broken xs) (first_broken ys)
 first_broken-append [] ys = refl
 first_broken-append (x ∷ xs) ys =
     one_more x.kept (record { kind = x.kind; index = x.index }) _ _ _ (first_broken-append xs ys)

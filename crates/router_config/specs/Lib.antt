@@ -1,3 +1,4 @@
+pub mod Configured
 pub mod Documents
 pub mod Edits
 pub mod Kinds

@@ -1,5 +1,6 @@
 //! The configuration of a router: its interfaces and its sessions.
-ghost use Rattle.std.specs.Prelude.{◌≡◌, ◌<◌, IfOk, IfSome, Some, length, slice_get};
+ghost use Rattle.std.specs.Prelude.{◌≡◌, ◌<◌, ◌≤◌, IfOk, IfSome, Some, length, slice_get};
+ghost use Rattle.router_config.specs.Configured.{AreConfigured, IsSessionConfig};
 ghost use Rattle.router_config.specs.Edits.{edited};
 ghost use Rattle.router_config.specs.Kinds.{IsAscending, iface_in, kind_in};
 
@@ -9,7 +10,8 @@ use std::marker::Model;
 use urpf_base::{IfaceId, Kind, OutOfMemory, SessionConfig};
 
 /// What a router is configured with. Contracts see it as its interfaces, each with its kind, by
-/// ascending number, and its sessions in their order.
+/// ascending number, and its sessions in their order. There are at most 64 interfaces and 128 sessions,
+/// and each session is on one of the interfaces.
 #[derive(Drop)]
 pub struct Config {
     kinds: Kinds,
@@ -17,16 +19,20 @@ pub struct Config {
 }
 
 impl Model for Config {
+    ghost use Rattle.router_config.specs.Configured.{AreConfigured};
     ghost use Rattle.router_config.specs.Settings.{Settings};
 
     ghost Value = { Settings };
 
     ghost view = { λ c. record { interfaces = c.kinds; sessions = c.sessions.items } };
+
+    ghost invariant = { λ c. AreConfigured (record { interfaces = c.kinds; sessions = c.sessions.items }) };
 }
 
 impl Config {
     /// The configuration with these interfaces and sessions.
     pub(crate) fn new(kinds: Kinds, sessions: Vec<SessionConfig>) -> Config
+        requires { AreConfigured (record { interfaces = kinds; sessions = sessions.items }) }
         ensures { result ≡ record { interfaces = kinds; sessions = sessions.items } }
     {
         Config { kinds, sessions }
@@ -47,24 +53,27 @@ impl Config {
         self.kinds.iface(number)
     }
 
-    /// How many sessions there are.
+    /// How many sessions there are: at most 128.
     pub fn sessions(&self) -> usize
-        ensures { result ≡ length self.now.sessions }
+        ensures value { result ≡ length self.now.sessions }
+        ensures within { result ≤ 128 }
     {
         self.sessions.len()
     }
 
-    /// Session `s`, counted from 0.
+    /// Session `s`, counted from 0. Its interface is configured.
     pub fn session(&self, s: usize) -> SessionConfig
         requires { s < length self.now.sessions }
-        ensures { slice_get self.now.sessions s ≡ Some result }
+        ensures value { slice_get self.now.sessions s ≡ Some result }
+        ensures configured { IsSessionConfig self.now.interfaces result }
     {
         self.sessions[s]
     }
 
-    /// How many interfaces there are.
+    /// How many interfaces there are: at most 64.
     pub fn interfaces(&self) -> usize
-        ensures { result ≡ length self.now.interfaces }
+        ensures value { result ≡ length self.now.interfaces }
+        ensures within { result ≤ 64 }
     {
         self.kinds.len()
     }

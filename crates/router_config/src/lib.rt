@@ -20,6 +20,3 @@ pub use faults::{ConfigFault, ConfigKind, ReadConfig};
 pub use kinds::Kinds;
 pub use names::{read_mode, read_role};
 pub use reading::read_config;
-
-#[cfg(test)]
-mod tests;

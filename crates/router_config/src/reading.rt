@@ -2,6 +2,7 @@
 //! first rule that it breaks.
 ghost use Rattle.std.specs.Prelude.{◌≡◌, ◌⊎◌, IfOk, IfErr, Ok, Err, None, Some};
 ghost use Rattle.toml.specs.View.{view};
+ghost use Rattle.router_config.specs.Configured.{AreConfigured};
 ghost use Rattle.router_config.specs.Rules.{first_broken, rules};
 ghost use Rattle.router_config.specs.Settings.{IsConfig, IsRefused, Settings, settings_of};
 ghost use Rattle.router_config.specs.declared.faults.ConfigFault.{ConfigFault};
@@ -17,6 +18,7 @@ use toml::Value;
 pub fn read_config(alloc: Global, text: &[u8]) -> Result<Config, ReadConfig>
     // What is read is what the text configures, and the fault is that of the first broken rule.
     ensures found { IfOk result (IsConfig text.now) }
+    ensures configured { IfOk result AreConfigured }
     ensures bad { (fault : ConfigFault) → result ≡ Err (ReadConfig.Bad fault) → IsRefused text.now fault }
     // What the text configures is read, unless memory runs out, and so with a fault.
     ensures only { (config : Settings) → IsConfig text.now config

@@ -1,9 +1,9 @@
 //! What a document configures that breaks no rule: its interfaces by ascending number, and its
 //! sessions in their order.
-ghost use Rattle.std.specs.Prelude.{◌≡◌, ◌<◌, ◌++◌, IfOk, OnOk, filter_map, map};
+ghost use Rattle.std.specs.Prelude.{◌≡◌, ◌<◌, ◌++◌, IfOk, OnOk, None, filter_map, map};
 ghost use Rattle.toml.specs.View.{view};
 ghost use Rattle.router_config.specs.Kinds.{AllBelow};
-ghost use Rattle.router_config.specs.Rules.{sessions_of};
+ghost use Rattle.router_config.specs.Rules.{first_broken, rules, sessions_of};
 ghost use Rattle.router_config.specs.Settings.{kind_at, kind_of, row_of, rows_below, session_of, settings_of};
 
 use crate::config::Config;
@@ -15,8 +15,9 @@ use std::alloc::Global;
 use toml::Value;
 use urpf_base::{IFACE_LIMIT, IfaceId, Kind, OutOfMemory, SessionConfig};
 
-/// What the document configures.
+/// What the document configures, which breaks no rule.
 pub(crate) fn settings_of(alloc: Global, document: &Value) -> Result<Config, OutOfMemory>
+    requires { first_broken (rules (view document.now)) ≡ None }
     ensures { IfOk result (λ config. config ≡ settings_of (view document.now)) }
 {
     let interfaces = interfaces_of(document);

@@ -186,14 +186,17 @@ fn is_refused(rt: &impl Abort, faulty: Faulty) {
     );
 }
 
+/// That each field is refused so.
+fn are_refused(rt: &impl Abort, rows: &[Faulty]) {
+    for faulty in rows {
+        is_refused(rt, *faulty);
+    }
+}
+
 #[test]
 fn the_first_fault_is_answered(rt: HostRuntime) {
-    for faulty in ONE_FAULT {
-        is_refused(&rt, faulty);
-    }
-    for faulty in TWO_FAULTS {
-        is_refused(&rt, faulty);
-    }
+    are_refused(&rt, &ONE_FAULT);
+    are_refused(&rt, &TWO_FAULTS);
 }
 
 #[test]

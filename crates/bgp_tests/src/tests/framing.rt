@@ -1,6 +1,7 @@
 //! What no clause says: headers made by hand, and one message that comes in every cut.
 use bgp_wire::{FrameState, Framer, MsgKind, assigned_numbers, header_decides, one_framing};
 use message_octets::{ANNOUNCE, KEEPALIVE};
+use std::process::Abort;
 
 /// A header whose marker begins with this octet and goes on with fifteen FF.
 fn header(first: u8, length: u16, code: u8) -> [u8; 19] {
@@ -36,13 +37,19 @@ const HEADERS: [(&str, u8, u16, u8, FrameState); 13] = [
     ),
 ];
 
-#[test]
-fn a_header_is_judged_by_its_first_fault(rt: HostRuntime) {
-    for (name, first, length, code, state) in HEADERS {
+/// That each header is judged so.
+fn are_judged(rt: &impl Abort, rows: &[(&str, u8, u16, u8, FrameState)]) {
+    for row in rows {
+        let (name, first, length, code, state) = *row;
         let mut framer = Framer::new();
         assert_eq!(rt; framer.push(&header(first, length, code)), 19, "{name}");
         assert_eq!(rt; framer.state(), state, "{name}");
     }
+}
+
+#[test]
+fn a_header_is_judged_by_its_first_fault(rt: HostRuntime) {
+    are_judged(&rt, &HEADERS);
     assigned_numbers();
     header_decides();
     one_framing();

@@ -102,11 +102,17 @@ const BODIES: [(&str, &[u8], Answer); 11] = [
     ),
 ];
 
+/// That each body is read so.
+fn are_read(rt: &impl Abort, rows: &[(&str, &[u8], Answer)]) {
+    for row in rows {
+        let (name, body, answer) = *row;
+        is_read(rt, name, body, answer);
+    }
+}
+
 #[test]
 fn an_open_is_judged_by_its_first_fault(rt: HostRuntime) {
-    for (name, body, answer) in BODIES {
-        is_read(&rt, name, body, answer);
-    }
+    are_read(&rt, &BODIES);
     assert_eq!(rt; read_notification(&[6, 2, 0xAB]), (6, 2));
 }
 
@@ -178,11 +184,17 @@ const PARAMETERS: [(&str, &[u8], Answer); 13] = [
     ),
 ];
 
+/// That a body of the head and each of these is read so.
+fn are_read_behind_the_head(rt: &(impl Abort + AllocGlobal), rows: &[(&str, &[u8], Answer)]) {
+    for row in rows {
+        let (name, parameters, answer) = *row;
+        let mut body = Vec::from_slice(rt.alloc(), &HEAD).expect(rt, "memory");
+        body.extend_from_slice(parameters).expect(rt, "memory");
+        is_read(rt, name, &body, answer);
+    }
+}
+
 #[test]
 fn parameters_are_judged_in_their_order(rt: HostRuntime) {
-    for (name, parameters, answer) in PARAMETERS {
-        let mut body = Vec::from_slice(rt.alloc(), &HEAD).expect(&rt, "memory");
-        body.extend_from_slice(parameters).expect(&rt, "memory");
-        is_read(&rt, name, &body, answer);
-    }
+    are_read_behind_the_head(&rt, &PARAMETERS);
 }

@@ -1,11 +1,18 @@
 //! Paths as messages hold them, with their hops and origins, and what AS4_PATH does to them.
 use as_path::{Aggregators, PathView, Width, origin_of};
+use std::process::Abort;
 
 /// No AGGREGATOR and no AS4_AGGREGATOR.
 const NEITHER: Aggregators = Aggregators {
     own: None,
     four: None,
 };
+
+/// The path that the octets are, of which there are few.
+fn read<'a>(rt: &impl Abort, value: &'a [u8], width: Width) -> Option<PathView<'a>> {
+    assert!(rt; value.len() < 1000);
+    PathView::read(value, width)
+}
 
 /// A path of four-octet AS numbers, its hops and its origin.
 #[derive(Clone, Copy)]
@@ -43,10 +50,10 @@ const ROWS: [Row; 5] = [
     },
 ];
 
-#[test]
-fn a_path_ends_in_its_origin(rt: HostRuntime) {
-    for row in ROWS {
-        let path = PathView::read(row.value, Width::Four).expect(&rt, "well formed");
+/// That each path has these hops and this origin.
+fn have_origins(rt: &impl Abort, rows: &[Row]) {
+    for row in rows {
+        let path = read(rt, row.value, Width::Four).expect(rt, "well formed");
         assert_eq!(rt; path.hops(), row.hops, "{:?}", row.value);
         assert_eq!(rt;
             origin_of(&path, None, NEITHER),
@@ -57,6 +64,11 @@ fn a_path_ends_in_its_origin(rt: HostRuntime) {
     }
 }
 
+#[test]
+fn a_path_ends_in_its_origin(rt: HostRuntime) {
+    have_origins(&rt, &ROWS);
+}
+
 /// No AS number; a confederation's segment; one that runs past the value; half a header.
 const MALFORMED: [&[u8]; 4] = [
     b"\x02\x00",
@@ -65,11 +77,16 @@ const MALFORMED: [&[u8]; 4] = [
     b"\x02\x01\x00\x00\xFB\xF5\x02",
 ];
 
+/// That no value is a path.
+fn are_malformed(rt: &impl Abort, rows: &[&[u8]]) {
+    for value in rows {
+        assert!(rt; read(rt, value, Width::Four).is_none(), "{value:?}");
+    }
+}
+
 #[test]
 fn a_malformed_path_is_refused(rt: HostRuntime) {
-    for value in MALFORMED {
-        assert!(rt; PathView::read(value, Width::Four).is_none(), "{value:?}");
-    }
+    are_malformed(&rt, &MALFORMED);
 }
 
 /// What comes beside an AS_PATH of 64501 and AS_TRANS from a peer of two-octet AS numbers.
@@ -132,15 +149,20 @@ const BESIDE: [Beside; 7] = [
     },
 ];
 
+/// That the path has these origins with what comes beside it.
+fn have_origins_beside(rt: &impl Abort, path: &PathView, rows: &[Beside]) {
+    for beside in rows {
+        let as4 = read(rt, beside.as4, Width::Four).expect(rt, "well formed");
+        let origin = origin_of(path, Some(&as4), beside.aggregators);
+        assert_eq!(rt; origin, beside.origin, "{}", beside.name);
+    }
+}
+
 #[test]
 fn as4_path_stands_for_the_last_hops(rt: HostRuntime) {
     let path = PathView::read(b"\x02\x02\xFB\xF5\x5B\xA0", Width::Two).expect(&rt, "well formed");
     assert_eq!(rt; origin_of(&path, None, NEITHER), Some(23456));
-    for beside in BESIDE {
-        let as4 = PathView::read(beside.as4, Width::Four).expect(&rt, "well formed");
-        let origin = origin_of(&path, Some(&as4), beside.aggregators);
-        assert_eq!(rt; origin, beside.origin, "{}", beside.name);
-    }
+    have_origins_beside(&rt, &path, &BESIDE);
 }
 
 /// A path that is well formed at both widths, what it is at each: its hops and its origin.
@@ -166,11 +188,11 @@ const EITHER_WAY: [EitherWay; 2] = [
     },
 ];
 
-#[test]
-fn a_path_that_fits_both_widths_is_read_by_the_one_that_is_told(rt: HostRuntime) {
-    for either in EITHER_WAY {
+/// That each path is read so at each width.
+fn are_read_at_both_widths(rt: &impl Abort, rows: &[EitherWay]) {
+    for either in rows {
         for (width, wanted) in [(Width::Two, either.two), (Width::Four, either.four)] {
-            let path = PathView::read(either.value, width).expect(&rt, "well formed");
+            let path = read(rt, either.value, width).expect(rt, "well formed");
             let origin = origin_of(&path, None, NEITHER);
             assert_eq!(rt;
                 (path.hops(), origin),
@@ -180,6 +202,11 @@ fn a_path_that_fits_both_widths_is_read_by_the_one_that_is_told(rt: HostRuntime)
             );
         }
     }
+}
+
+#[test]
+fn a_path_that_fits_both_widths_is_read_by_the_one_that_is_told(rt: HostRuntime) {
+    are_read_at_both_widths(&rt, &EITHER_WAY);
 }
 
 /// 64497 64498, a set of 64499 and 64500, and then 64501, at each width.
@@ -196,13 +223,19 @@ const AROUND_A_SET: [(&[u8], Width); 2] = [
     ),
 ];
 
-#[test]
-fn the_last_segment_of_sequence_set_sequence_decides_the_origin(rt: HostRuntime) {
-    for (value, width) in AROUND_A_SET {
-        let path = PathView::read(value, width).expect(&rt, "well formed");
+/// That each path has four hops and ends in 64501.
+fn have_four_hops(rt: &impl Abort, rows: &[(&[u8], Width)]) {
+    for row in rows {
+        let (value, width) = *row;
+        let path = read(rt, value, width).expect(rt, "well formed");
         assert_eq!(rt; path.hops(), 4, "{width:?}");
         assert_eq!(rt; origin_of(&path, None, NEITHER), Some(64501), "{width:?}");
     }
+}
+
+#[test]
+fn the_last_segment_of_sequence_set_sequence_decides_the_origin(rt: HostRuntime) {
+    have_four_hops(&rt, &AROUND_A_SET);
 }
 
 #[test]

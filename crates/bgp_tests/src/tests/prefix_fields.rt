@@ -66,9 +66,14 @@ const REFUSED: [Refused; 4] = [
     },
 ];
 
-#[test]
-fn a_field_off_its_form_is_refused(rt: HostRuntime) {
-    for refused in REFUSED {
+/// That no field is taken.
+fn are_refused(rt: &impl Abort, rows: &[Refused]) {
+    for refused in rows {
         assert!(rt; !check(refused.field, refused.family), "{}", refused.name);
     }
+}
+
+#[test]
+fn a_field_off_its_form_is_refused(rt: HostRuntime) {
+    are_refused(&rt, &REFUSED);
 }

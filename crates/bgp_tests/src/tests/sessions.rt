@@ -283,16 +283,21 @@ const ROWS: [Row; 13] = [
     },
 ];
 
-#[test]
-fn each_state_takes_each_item_by_its_row(rt: HostRuntime) {
-    for row in ROWS {
+/// That each state takes each item by its row.
+fn are_taken(rt: &impl Abort, rows: &[Row]) {
+    for row in rows {
         for steps in 0..4 {
-            let mut session = session_after(&rt, steps, 180);
+            let mut session = session_after(rt, steps, 180);
             let (effect, next) = row.outcomes[steps];
-            assert_eq!(rt; take(&rt, &mut session, row.input), effect, "{}", row.name);
-            assert_eq!(rt; stage_of(&rt, &mut session), next, "{}", row.name);
+            assert_eq!(rt; take(rt, &mut session, row.input), effect, "{}", row.name);
+            assert_eq!(rt; stage_of(rt, &mut session), next, "{}", row.name);
         }
     }
+}
+
+#[test]
+fn each_state_takes_each_item_by_its_row(rt: HostRuntime) {
+    are_taken(&rt, &ROWS);
 }
 
 #[test]

@@ -258,16 +258,19 @@ fn is_refused(rt: &impl Abort, faulty: Faulty) {
     );
 }
 
-#[test]
-fn a_fault_is_answered(rt: HostRuntime) {
-    for faulty in ONE_FAULT {
-        is_refused(&rt, faulty);
+/// That each body is refused so.
+fn are_refused(rt: &impl Abort, rows: &[Faulty]) {
+    for faulty in rows {
+        is_refused(rt, *faulty);
     }
 }
 
 #[test]
+fn a_fault_is_answered(rt: HostRuntime) {
+    are_refused(&rt, &ONE_FAULT);
+}
+
+#[test]
 fn of_two_faults_the_first_in_the_order_is_answered(rt: HostRuntime) {
-    for faulty in TWO_FAULTS {
-        is_refused(&rt, faulty);
-    }
+    are_refused(&rt, &TWO_FAULTS);
 }

@@ -2,6 +2,7 @@
 use super::updates::read;
 use as_path::Width;
 use bgp_update::UpdateFault;
+use std::process::Abort;
 
 /// Bodies whose last withdrawn prefix has fewer octets than its length says, though the octets that
 /// follow the field would be enough for it.
@@ -22,12 +23,17 @@ const INTO_THE_ATTRIBUTES: [&[u8]; 4] = [
         \x40\x01",
 ];
 
-#[test]
-fn a_withdrawn_prefix_takes_no_octet_of_the_attributes(rt: HostRuntime) {
-    for body in INTO_THE_ATTRIBUTES {
+/// That each body is refused for a prefix, at each width.
+fn are_refused(rt: &impl Abort, rows: &[&[u8]]) {
+    for body in rows {
         for width in [Width::Two, Width::Four] {
-            let fault = read(&rt, body, width, true).err();
+            let fault = read(rt, body, width, true).err();
             assert_eq!(rt; fault, Some(UpdateFault { sub: 10 }), "{body:?}");
         }
     }
+}
+
+#[test]
+fn a_withdrawn_prefix_takes_no_octet_of_the_attributes(rt: HostRuntime) {
+    are_refused(&rt, &INTO_THE_ATTRIBUTES);
 }

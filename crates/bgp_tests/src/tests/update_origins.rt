@@ -1,6 +1,7 @@
 //! The origins of announced routes, from peers of four-octet and of two-octet AS numbers.
 use super::updates::read;
 use as_path::Width;
+use std::process::Abort;
 use urpf_base::Origin;
 
 /// A body that announces a route, with the origin of the route.
@@ -171,10 +172,15 @@ const ROWS: [Row; 13] = [
     },
 ];
 
-#[test]
-fn a_route_has_the_origin_of_its_path(rt: HostRuntime) {
-    for row in ROWS {
-        let update = read(&rt, row.body, row.width, true).expect(&rt, "no fault");
+/// That each body announces a route of this origin.
+fn have_origins(rt: &impl Abort, rows: &[Row]) {
+    for row in rows {
+        let update = read(rt, row.body, row.width, true).expect(rt, "no fault");
         assert_eq!(rt; update.origin(), row.origin, "{}", row.name);
     }
+}
+
+#[test]
+fn a_route_has_the_origin_of_its_path(rt: HostRuntime) {
+    have_origins(&rt, &ROWS);
 }

@@ -152,11 +152,16 @@ fn is_read(rt: &impl Abort, row: &Row) {
     assert_eq!(rt; update.origin(), row.origin, "{}", row.name);
 }
 
+/// That each message is read as its row says.
+fn are_read(rt: &impl Abort, rows: &[Row]) {
+    for row in rows {
+        is_read(rt, row);
+    }
+}
+
 #[test]
 fn routes_are_withdrawn_and_announced_in_their_order(rt: HostRuntime) {
-    for row in ROWS {
-        is_read(&rt, &row);
-    }
+    are_read(&rt, &ROWS);
 }
 
 /// A body that mentions no prefix.
@@ -196,12 +201,17 @@ const EMPTY: [Empty; 4] = [
     },
 ];
 
-#[test]
-fn a_body_may_mention_no_prefix(rt: HostRuntime) {
-    for empty in EMPTY {
-        let update = read(&rt, empty.body, Width::Four, true).expect(&rt, "no fault");
-        withdraws(&rt, empty.name, &update, &[]);
-        announces(&rt, empty.name, &update, &[]);
+/// That no body mentions a prefix.
+fn mention_no_prefix(rt: &impl Abort, rows: &[Empty]) {
+    for empty in rows {
+        let update = read(rt, empty.body, Width::Four, true).expect(rt, "no fault");
+        withdraws(rt, empty.name, &update, &[]);
+        announces(rt, empty.name, &update, &[]);
         assert_eq!(rt; update.origin(), None, "{}", empty.name);
     }
+}
+
+#[test]
+fn a_body_may_mention_no_prefix(rt: HostRuntime) {
+    mention_no_prefix(&rt, &EMPTY);
 }

@@ -155,14 +155,20 @@ const ROWS: [(&[Appended], usize, &str, &[u8]); 5] = [
     ),
 ];
 
+/// That both feeds of each row tell this.
+fn are_given(rt: &(impl Abort + AllocGlobal), rows: &[(&[Appended], usize, &str, &[u8])]) {
+    for row in rows {
+        let (events, room, wanted, octets) = *row;
+        let (mut sure, mut mem) = feeds(rt, events, &[]);
+        assert!(rt; 0 < room && room <= BUFFER_OCTETS);
+        is_told(rt, &mut sure, room, wanted, octets);
+        is_told(rt, &mut mem, room, wanted, octets);
+    }
+}
+
 #[test]
 fn events_are_given_in_their_order(rt: HostRuntime) {
-    for (events, room, wanted, octets) in ROWS {
-        let (mut sure, mut mem) = feeds(&rt, events, &[]);
-        assert!(rt; 0 < room && room <= BUFFER_OCTETS);
-        is_told(&rt, &mut sure, room, wanted, octets);
-        is_told(&rt, &mut mem, room, wanted, octets);
-    }
+    are_given(&rt, &ROWS);
 }
 
 #[test]

@@ -14,24 +14,42 @@ fn source(rt: &(impl Abort + AllocGlobal), octets: &[u8], fails: &[u64]) -> MemS
     )
 }
 
-/// Texts, the calls that fail, the limit, and what is read.
-const TEXTS: [(&[u8], &[u64], usize, Result<&[u8], TextFault>); 4] = [
+/// A text, the calls that fail, the limit, and what is read.
+type Text = (
+    &'static [u8],
+    &'static [u64],
+    usize,
+    Result<&'static [u8], TextFault>,
+);
+
+const TEXTS: [Text; 4] = [
     (b"abcdef", &[], 6, Ok(b"abcdef")),
     (b"", &[], 0, Ok(b"")),
     (b"abcdef", &[], 5, Err(TextFault::TooLong)),
     (b"abcdef", &[2], 9, Err(TextFault::Failed)),
 ];
 
+/// That this is read of the octets.
+fn is_read(rt: &(impl Abort + AllocGlobal), row: &Text) {
+    let (octets, fails, limit, wanted) = *row;
+    let read = read_text(rt.alloc(), &mut source(rt, octets, fails), limit);
+    match (read, wanted) {
+        (Ok(text), Ok(wanted)) => assert_eq!(rt; text.as_slice(), wanted),
+        (Err(fault), wanted) => assert_eq!(rt; Some(fault), wanted.err()),
+        (Ok(text), Err(fault)) => assert!(rt; false, "{text:?} {fault:?}"),
+    }
+}
+
+/// That this is read of each text.
+fn are_read(rt: &(impl Abort + AllocGlobal), rows: &[Text]) {
+    for row in rows {
+        is_read(rt, row);
+    }
+}
+
 #[test]
 fn a_text_is_read_whole_or_refused_by_its_cause(rt: HostRuntime) {
-    for (octets, fails, limit, wanted) in TEXTS {
-        let read = read_text(rt.alloc(), &mut source(&rt, octets, fails), limit);
-        match (read, wanted) {
-            (Ok(text), Ok(wanted)) => assert_eq!(rt; text.as_slice(), wanted),
-            (Err(fault), wanted) => assert_eq!(rt; Some(fault), wanted.err()),
-            (Ok(text), Err(fault)) => assert!(rt; false, "{text:?} {fault:?}"),
-        }
-    }
+    are_read(&rt, &TEXTS);
     let octets = Vec::from_slice(rt.alloc(), b"abc").expect(&rt, "memory");
     let text = read_text(rt.alloc(), &mut SureSource::new(octets), 6).expect(&rt, "a text");
     assert_eq!(rt; text.as_slice(), b"abc".as_slice());

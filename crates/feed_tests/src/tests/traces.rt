@@ -27,15 +27,21 @@ const BY_ROOM: [(usize, &str); 4] = [
     (1, "Up Octets(1) Octets(1) Octets(1) Elapsed(2) Down End"),
 ];
 
+/// That the worked trace gives these events.
+fn are_given(rt: &(impl Abort + AllocGlobal), rows: &[(usize, &str)]) {
+    for row in rows {
+        let (room, events) = *row;
+        assert!(rt; 0 < room && room <= 64);
+        let mut feed = TraceFeed::new(source(rt, &WORKED));
+        is_told(rt, &mut feed, room, events, b"abc");
+    }
+}
+
 #[test]
 fn a_trace_gives_its_events(rt: HostRuntime) {
     assigned_numbers();
     one_trace();
-    for (room, events) in BY_ROOM {
-        assert!(rt; 0 < room && room <= 64);
-        let mut feed = TraceFeed::new(source(&rt, &WORKED));
-        is_told(&rt, &mut feed, room, events, b"abc");
-    }
+    are_given(&rt, &BY_ROOM);
     let mut feed = TraceFeed::new(source(&rt, b""));
     is_told(&rt, &mut feed, 64, "End", b"");
 }
@@ -60,13 +66,19 @@ const BROKEN: [(&[u8], &str, &[u8]); 11] = [
     (&[4, 0, 0, 0, 9, 4, 0], "Elapsed(9) Failed", b""),
 ];
 
+/// That each trace gives this, and then fails.
+fn break_off(rt: &(impl Abort + AllocGlobal), rows: &[(&[u8], &str, &[u8])]) {
+    for row in rows {
+        let (octets, events, held) = *row;
+        let mut feed = TraceFeed::new(source(rt, octets));
+        is_told(rt, &mut feed, 64, events, held);
+        is_told(rt, &mut feed, 64, "Failed", b"");
+    }
+}
+
 #[test]
 fn a_broken_trace_gives_its_front_and_then_fails(rt: HostRuntime) {
-    for (octets, events, held) in BROKEN {
-        let mut feed = TraceFeed::new(source(&rt, octets));
-        is_told(&rt, &mut feed, 64, events, held);
-        is_told(&rt, &mut feed, 64, "Failed", b"");
-    }
+    break_off(&rt, &BROKEN);
 }
 
 /// The read that fails, and what is told of the worked trace: events, and octets. There is a read
@@ -82,15 +94,21 @@ const BY_FAILURE: [(u64, &str, &[u8]); 8] = [
     (8, "Up Octets(3) Elapsed(2) Down Failed", b"abc"),
 ];
 
+/// That the worked trace gives this up to a read that fails, and then fails again.
+fn fail_once(rt: &(impl Abort + AllocGlobal), rows: &[(u64, &str, &[u8])]) {
+    for row in rows {
+        let (call, events, held) = *row;
+        let fails = Vec::from_slice(rt.alloc(), &[call]).expect(rt, "memory");
+        let octets = Vec::from_slice(rt.alloc(), &WORKED).expect(rt, "memory");
+        let mut feed = TraceFeed::new(MemSource::new(octets, fails));
+        is_told(rt, &mut feed, 64, events, held);
+        is_told(rt, &mut feed, 64, "Failed", b"");
+    }
+}
+
 #[test]
 fn a_source_that_fails_in_mid_stream_ends_the_feed(rt: HostRuntime) {
-    for (call, events, held) in BY_FAILURE {
-        let fails = Vec::from_slice(rt.alloc(), &[call]).expect(&rt, "memory");
-        let octets = Vec::from_slice(rt.alloc(), &WORKED).expect(&rt, "memory");
-        let mut feed = TraceFeed::new(MemSource::new(octets, fails));
-        is_told(&rt, &mut feed, 64, events, held);
-        is_told(&rt, &mut feed, 64, "Failed", b"");
-    }
+    fail_once(&rt, &BY_FAILURE);
 }
 
 /// A source that gives one octet a read, and tells nothing.

@@ -84,11 +84,16 @@ const CHECKS: [Check; 5] = [
     },
 ];
 
+/// That this comes of each.
+fn come(rt: &(impl Abort + AllocGlobal), rows: &[Check]) {
+    for check in rows {
+        comes(rt, check);
+    }
+}
+
 #[test]
 fn a_stream_has_its_line_or_its_first_fault(rt: HostRuntime) {
-    for check in &CHECKS {
-        comes(&rt, check);
-    }
+    come(&rt, &CHECKS);
 }
 
 const FAILED: [Check; 3] = [
@@ -111,7 +116,5 @@ const FAILED: [Check; 3] = [
 
 #[test]
 fn a_fault_of_the_outside_is_told(rt: HostRuntime) {
-    for check in &FAILED {
-        comes(&rt, check);
-    }
+    come(&rt, &FAILED);
 }

@@ -4,6 +4,7 @@ use crate::tests::events::{FULL, mem_feed, source};
 use crate::tests::runs::{ALL_AT_ONCE, HEAD, OFFLINE, ends, words};
 use feed_io::SureSink;
 use runbook::BookKind;
+use std::process::Abort;
 use urpf_cli::{Object, Status, offline_feed};
 
 #[test]
@@ -17,22 +18,20 @@ fn a_book_that_is_refused_leaves_the_feed_alone(rt: HostRuntime) {
     ends(&rt, "a refused book", book, &mut feed, &[1], wanted, "");
 }
 
-/// Words, of which those of a run read a book whose first read fails, and the answer.
-const WORDS: [(&[&str], Status); 2] = [
-    (&OFFLINE, Status::ReadFault(Object::Book)),
-    (&["Offline", "book", "trace"], Status::Usage),
-];
+/// How these words are answered over a book whose first read fails.
+fn answer(rt: &(impl Abort + AllocGlobal), line: &[&str]) -> Status {
+    let words = words(rt, line);
+    let mut book = source(rt, b"", &[1]);
+    let mut feed = mem_feed(rt, &FULL, &[1]);
+    let mut out = SureSink::new();
+    offline_feed(rt.alloc(), &words, &mut book, &mut feed, &mut out)
+}
 
 #[test]
 fn words_of_no_form_are_told_before_the_book_is_read(rt: HostRuntime) {
-    for (line, wanted) in WORDS {
-        let words = words(&rt, line);
-        let mut book = source(&rt, b"", &[1]);
-        let mut feed = mem_feed(&rt, &FULL, &[1]);
-        let mut out = SureSink::new();
-        let status = offline_feed(rt.alloc(), &words, &mut book, &mut feed, &mut out);
-        assert_eq!(rt; status, wanted, "of {words:?}");
-    }
+    let fault = Status::ReadFault(Object::Book);
+    assert_eq!(rt; answer(&rt, &OFFLINE), fault);
+    assert_eq!(rt; answer(&rt, &["Offline", "book", "trace"]), Status::Usage);
 }
 
 #[test]

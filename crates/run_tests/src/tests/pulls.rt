@@ -158,6 +158,13 @@ fn is_pulled(rt: &(impl Abort + AllocGlobal), row: &Pulled) {
     assert_eq!(rt; control.judge(&source), row.verdict, "of {name}");
 }
 
+/// That each session is pulled so.
+fn are_pulled(rt: &(impl Abort + AllocGlobal), rows: &[Pulled]) {
+    for row in rows {
+        is_pulled(rt, row);
+    }
+}
+
 #[test]
 fn a_session_is_pulled_and_published(rt: HostRuntime) {
     assigned_limits();
@@ -167,7 +174,5 @@ fn a_session_is_pulled_and_published(rt: HostRuntime) {
     items_of_a_front();
     one_run();
     one_more_update();
-    for row in &ROWS {
-        is_pulled(&rt, row);
-    }
+    are_pulled(&rt, &ROWS);
 }

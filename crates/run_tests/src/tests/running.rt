@@ -2,6 +2,7 @@
 use crate::tests::events::{A_KEEPALIVE, AN_OPEN, AN_UPDATE, Event, FULL, joined};
 use crate::tests::runs::{ALL_AT_ONCE, FULL_TEXT, is_run_over};
 use message_octets::{ANNOUNCE, KEEPALIVE, OPEN, WITHDRAW};
+use std::process::Abort;
 
 /// A run: its runbook, the events of its session, and its text behind the head.
 #[derive(Clone, Copy)]
@@ -55,11 +56,16 @@ const RUNS: [Run; 3] = [
     },
 ];
 
+/// That each run writes its text.
+fn are_run(rt: &(impl Abort + AllocGlobal), rows: &[Run]) {
+    for run in rows {
+        is_run_over(rt, run.name, run.book, run.events, run.text);
+    }
+}
+
 #[test]
 fn a_run_writes_its_whole_text(rt: HostRuntime) {
-    for run in &RUNS {
-        is_run_over(&rt, run.name, run.book, run.events, run.text);
-    }
+    are_run(&rt, &RUNS);
 }
 
 #[test]

@@ -42,13 +42,19 @@ fn is_told(rt: &impl Abort, status: Status, text: &str, exit: u8) {
     assert_eq!(rt; exit_code(&status), exit, "with {text}");
 }
 
+/// That each status is told so.
+fn are_told(rt: &impl Abort, rows: &[(Status, &str, u8)]) {
+    for row in rows {
+        let (status, text, exit) = *row;
+        is_told(rt, status, text, exit);
+    }
+}
+
 #[test]
 fn a_status_has_its_text_and_its_number(rt: HostRuntime) {
     assigned_numbers();
     one_run_text();
-    for (status, text, exit) in STATUSES {
-        is_told(&rt, status, text, exit);
-    }
+    are_told(&rt, &STATUSES);
 }
 
 /// Words of command lines, and what they ask for.
@@ -69,12 +75,18 @@ const COMMANDS: [(&[&str], Option<Command>); 9] = [
     (&["check", "198.51.100.9"], None),
 ];
 
-#[test]
-fn words_ask_for_a_command_or_fit_none(rt: HostRuntime) {
-    for (line, wanted) in COMMANDS {
-        let words = words(&rt, line);
+/// That the words of each row ask for its command.
+fn ask_for(rt: &(impl Abort + AllocGlobal), rows: &[(&[&str], Option<Command>)]) {
+    for row in rows {
+        let (line, wanted) = *row;
+        let words = words(rt, line);
         assert_eq!(rt; read_command(&words), wanted, "of {words:?}");
         let offline = wanted == Some(Command::Offline);
         assert_eq!(rt; asks_offline(&words), offline, "of {words:?}");
     }
+}
+
+#[test]
+fn words_ask_for_a_command_or_fit_none(rt: HostRuntime) {
+    ask_for(&rt, &COMMANDS);
 }

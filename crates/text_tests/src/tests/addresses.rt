@@ -1,5 +1,6 @@
 //! The texts of addresses and numbers, and what is off their grammar.
 use ip_text::{put_addr, put_number, read_addr, read_number};
+use std::process::Abort;
 use urpf_base::{Addr, Line};
 
 /// Texts, and the address that each is.
@@ -48,14 +49,25 @@ const NO_ADDRESSES: [&[u8]; 16] = [
     b"::1.2.3.4",
 ];
 
-#[test]
-fn an_address_is_read_and_other_texts_are_not(rt: HostRuntime) {
-    for (text, addr) in ADDRESSES {
+/// That each text is read as this address.
+fn are_addresses(rt: &impl Abort, rows: &[(&[u8], Addr)]) {
+    for row in rows {
+        let (text, addr) = *row;
         assert_eq!(rt; read_addr(text), Some(addr), "{text:?}");
     }
-    for text in NO_ADDRESSES {
+}
+
+/// That no text is an address.
+fn are_none(rt: &impl Abort, rows: &[&[u8]]) {
+    for text in rows {
         assert_eq!(rt; read_addr(text), None, "{text:?}");
     }
+}
+
+#[test]
+fn an_address_is_read_and_other_texts_are_not(rt: HostRuntime) {
+    are_addresses(&rt, &ADDRESSES);
+    are_none(&rt, &NO_ADDRESSES);
 }
 
 /// Addresses, and how each is printed.
@@ -74,18 +86,30 @@ const PRINTED_NUMBERS: [(u64, &[u8]); 3] = [
     (u64::MAX, b"18446744073709551615"),
 ];
 
-#[test]
-fn addresses_and_numbers_are_printed(rt: HostRuntime) {
-    for (addr, text) in PRINTED {
+/// That each address is printed so.
+fn are_printed(rt: &impl Abort, rows: &[(Addr, &[u8])]) {
+    for row in rows {
+        let (addr, text) = *row;
         let mut line = Line::new();
         put_addr(&addr, &mut line);
         assert_eq!(rt; line.bytes(), text);
     }
-    for (number, text) in PRINTED_NUMBERS {
+}
+
+/// That each number is printed so.
+fn are_printed_numbers(rt: &impl Abort, rows: &[(u64, &[u8])]) {
+    for row in rows {
+        let (number, text) = *row;
         let mut line = Line::new();
         put_number(number, &mut line);
         assert_eq!(rt; line.bytes(), text);
     }
+}
+
+#[test]
+fn addresses_and_numbers_are_printed(rt: HostRuntime) {
+    are_printed(&rt, &PRINTED);
+    are_printed_numbers(&rt, &PRINTED_NUMBERS);
 }
 
 /// Texts, the greatest number that is taken, and the number that is read.
@@ -100,9 +124,15 @@ const NUMBERS: [(&[u8], u32, Option<u32>); 8] = [
     (b"+1", 9, None),
 ];
 
-#[test]
-fn a_number_is_read_up_to_its_bound(rt: HostRuntime) {
-    for (text, most, number) in NUMBERS {
+/// That this is read of each text.
+fn are_numbers(rt: &impl Abort, rows: &[(&[u8], u32, Option<u32>)]) {
+    for row in rows {
+        let (text, most, number) = *row;
         assert_eq!(rt; read_number(text, most), number, "{text:?}");
     }
+}
+
+#[test]
+fn a_number_is_read_up_to_its_bound(rt: HostRuntime) {
+    are_numbers(&rt, &NUMBERS);
 }

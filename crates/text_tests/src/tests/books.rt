@@ -66,18 +66,28 @@ const BOOKS: [(&[u8], &[(u32, Wanted)]); 6] = [
     ),
 ];
 
+/// That the text is a book of these lines.
+fn is_book(rt: &(impl Abort + AllocGlobal), text: &[u8], lines: &[(u32, Wanted)]) {
+    assert!(rt; text.len() < 1000);
+    let book = read_book(rt.alloc(), text).expect(rt, "a book");
+    let count = book.len();
+    assert!(rt; count == lines.len(), "{text:?}");
+    for k in 0..count {
+        let (number, wanted) = lines[k];
+        assert_eq!(rt; book.line(k), (number, line_of(rt, wanted)), "{text:?}");
+    }
+}
+
+/// That each text is a book of its lines.
+fn are_books(rt: &(impl Abort + AllocGlobal), rows: &[(&[u8], &[(u32, Wanted)])]) {
+    for row in rows {
+        is_book(rt, row.0, row.1);
+    }
+}
+
 #[test]
 fn each_form_is_read_with_its_line(rt: HostRuntime) {
-    for (text, lines) in BOOKS {
-        assert!(rt; text.len() < 1000);
-        let book = read_book(rt.alloc(), text).expect(&rt, "a book");
-        let count = book.len();
-        assert!(rt; count == lines.len(), "{text:?}");
-        for k in 0..count {
-            let (number, wanted) = lines[k];
-            assert_eq!(rt; book.line(k), (number, line_of(&rt, wanted)), "{text:?}");
-        }
-    }
+    are_books(&rt, &BOOKS);
 }
 
 /// Where and how a book is refused.
@@ -168,10 +178,16 @@ const REFUSED: [(&str, &[u8], u32, BookKind); 19] = [
     ("the first of two CR", b"publish\r\r\n", 1, BookKind::Syntax),
 ];
 
-#[test]
-fn the_first_refused_line_is_named(rt: HostRuntime) {
-    for (name, text, line, kind) in REFUSED {
+/// That each text is refused so.
+fn are_refused(rt: &(impl Abort + AllocGlobal), rows: &[(&str, &[u8], u32, BookKind)]) {
+    for row in rows {
+        let (name, text, line, kind) = *row;
         assert!(rt; text.len() < 1000, "{name}");
         assert_eq!(rt; fault(rt.alloc(), text), Some((line, kind)), "{name}");
     }
+}
+
+#[test]
+fn the_first_refused_line_is_named(rt: HostRuntime) {
+    are_refused(&rt, &REFUSED);
 }

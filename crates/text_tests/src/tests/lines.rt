@@ -32,14 +32,20 @@ const MARKS: [(u64, u64, u64, &[u64], &[u8]); 2] = [
     ),
 ];
 
-#[test]
-fn a_publication_tells_the_items_of_each_session(rt: HostRuntime) {
-    for (number, edits, cells, items, text) in MARKS {
+/// That each publication is told so.
+fn are_marks(rt: &impl Abort, rows: &[(u64, u64, u64, &[u64], &[u8])]) {
+    for row in rows {
+        let (number, edits, cells, items, text) = *row;
         let mut line = Line::new();
         assert!(rt; items.len() <= 128);
         put_mark(number, edits, cells, items, &mut line);
         assert_eq!(rt; line.bytes(), text);
     }
+}
+
+#[test]
+fn a_publication_tells_the_items_of_each_session(rt: HostRuntime) {
+    are_marks(&rt, &MARKS);
     let mut line = Line::new();
     put_mark(0, 0, 0, &[u64::MAX; 128], &mut line);
     // 31 octets up to `items`, 128 times a space and 20 digits, and the line feed.
@@ -67,18 +73,30 @@ const RESETS: [(ResetCause, &[u8]); 3] = [
     (ResetCause::Closed, b"reset 1 item 12 closed\n"),
 ];
 
-#[test]
-fn a_session_ends_with_its_rest_and_a_reset_names_its_cause(rt: HostRuntime) {
-    for (session, items, rest, text) in ENDS {
+/// That each end is told so.
+fn are_ends(rt: &impl Abort, rows: &[(u32, u64, u64, &[u8])]) {
+    for row in rows {
+        let (session, items, rest, text) = *row;
         let mut line = Line::new();
         put_end(session, items, rest, &mut line);
         assert_eq!(rt; line.bytes(), text);
     }
-    for (cause, text) in RESETS {
+}
+
+/// That each reset is told so.
+fn are_resets(rt: &impl Abort, rows: &[(ResetCause, &[u8])]) {
+    for row in rows {
+        let (cause, text) = *row;
         let mut line = Line::new();
         put_reset(1, 12, &cause, &mut line);
         assert_eq!(rt; line.bytes(), text);
     }
+}
+
+#[test]
+fn a_session_ends_with_its_rest_and_a_reset_names_its_cause(rt: HostRuntime) {
+    are_ends(&rt, &ENDS);
+    are_resets(&rt, &RESETS);
 }
 
 /// The line of a check of a source on an interface, at a publication.
@@ -91,23 +109,25 @@ fn is_checked(rt: &impl Abort, iface: u16, addr: Addr, verdict: Verdict, number:
     assert_eq!(rt; line.bytes(), text);
 }
 
+/// The line of `check` for the source, after one message with two prefixes.
+fn is_told(rt: &impl Abort, pass: bool, text: &[u8]) {
+    let mut line = Line::new();
+    put_one(&SOURCE, pass, 1, 2, 0, &mut line);
+    assert_eq!(rt; line.bytes(), text);
+}
+
 #[test]
 fn a_check_tells_its_verdict(rt: HostRuntime) {
-    let rows: [(bool, &[u8]); 2] = [
-        (
-            true,
-            b"check 198.51.100.9 pass messages 1 prefixes 2 rest 0\n",
-        ),
-        (
-            false,
-            b"check 198.51.100.9 drop messages 1 prefixes 2 rest 0\n",
-        ),
-    ];
-    for (pass, text) in rows {
-        let mut line = Line::new();
-        put_one(&SOURCE, pass, 1, 2, 0, &mut line);
-        assert_eq!(rt; line.bytes(), text);
-    }
+    is_told(
+        &rt,
+        true,
+        b"check 198.51.100.9 pass messages 1 prefixes 2 rest 0\n",
+    );
+    is_told(
+        &rt,
+        false,
+        b"check 198.51.100.9 drop messages 1 prefixes 2 rest 0\n",
+    );
     let wide = Addr::V6(0x2001_0DB8_0000_0000_0000_0000_0000_0001);
     let text = b"check 0 2001:0db8:0000:0000:0000:0000:0000:0001 pass 0\n";
     is_checked(&rt, 0, wide, Verdict::Pass, 0, text);

@@ -3,7 +3,7 @@ use Rattle.std.proofs.Common.{◌≡◌, ℕ, ◌+◌, Bool, true, false, List, 
 use Rattle.std.proofs.Common.{None, Result, Ok, Err, refl, sym, ap, subst, ◌∙◌}
 use Rattle.std.proofs.lemmas.List.{append-nil}
 use Rattle.bgp_wire.specs.Frames.{End, Clean, IsShort}
-use Rattle.feed_io.specs.Events.{Event, octets}
+use Rattle.feed_io.specs.Events.{Event}
 use Rattle.feed_io.specs.declared.feeds.FeedEvent.TheVariants as feed
 use Rattle.session_fsm.specs.declared.items.Effect.{Effect}
 use Rattle.session_fsm.specs.Table.{SessionState}
@@ -14,7 +14,7 @@ use Rattle.control_core.specs.declared.peering.Peering.{Peering}
 use Rattle.control_core.specs.declared.peering.Turn.{Turn}
 use Rattle.control_core.specs.declared.peering.Turn.TheVariants.{Took, Octets}
 use Rattle.control_core.specs.declared.peering.Turn.TheVariants as turn
-use Rattle.control_core.specs.Items.{message, Connection}
+use Rattle.control_core.specs.Items.{Connection}
 use Rattle.control_core.specs.Items.{connection_at_end, left_behind, LeavesOctets}
 use Rattle.control_core.specs.Items.{IsRest}
 use Rattle.control_core.specs.Effects.{HoldsAll}
@@ -22,8 +22,8 @@ use Rattle.control_core.specs.Peers.{held_octets, peer_of}
 use Rattle.control_core.specs.States.{PeerState}
 use Rattle.control_core.specs.History.{HoldsConnection, StandsFor}
 use Rattle.control_core.specs.Runs.{Runs}
-use Rattle.control_core.specs.TurnParts.{CountsItem, IsItem, TookItem}
-use Rattle.control_core.specs.Turns.{Counts, Shows, Turned}
+use Rattle.control_core.specs.TurnParts.{CountsItem, IsItem, TakesOne}
+use Rattle.control_core.specs.Turns.{Counts, HadMemory, Shows, Turned}
 use Rattle.control_core.specs.FeedCalls.{Fills, Gave, IsEmptied}
 use Rattle.control_core.specs.declared.limits.Limits.{Limits}
 use Rattle.control_core.proofs.TurnLaws.{idle}
@@ -34,7 +34,7 @@ gave_none None = tt
 gave_none (Some events) = refl
 
 -- the items and octets of a turn that took an item
-pub counts_item : (result : Result Turn RunFault) (old new : PeerState) (limits : Limits) → IsItem result
+counts_item : (result : Result Turn RunFault) (old new : PeerState) (limits : Limits) → IsItem result
     → CountsItem old new → Counts result old new limits
 counts_item (Ok (Took reset)) old new limits is counts = (counts.items, counts.octets, counts.ended)
 counts_item (Ok Octets) old new limits is counts = absurd is
@@ -46,26 +46,33 @@ counts_item (Err (OctetLimit session)) old new limits is counts = let clash : Oc
     cc
 counts_item (Err OutOfMemory) old new limits is counts = (counts.items, counts.octets)
 
--- a turn that took an item of an event that came, or of no new one
-pub turned_item : (events gave : List Event) (effects : List Effect) (old_left new_left : Option (List Event))
-    (result : Result Turn RunFault) (new : PeerState)
-    → Gave old_left gave new_left → TookItem (events ++ gave) effects new result
-    → Turned events effects old_left new_left result new
-turned_item events gave effects old_left new_left result new told took = record {
-  gave = gave;
-  more = took.effect ∷ [];
-  told = told;
-  stands = took.stands;
-  shows = subst (λ (r : Result Turn RunFault). Shows r (took.effect ∷ []) (events ++ gave) old_left new_left)
-      (sym took.told) (took.effect, refl, refl);
-}
+-- the same of a call that began with as many items and octets as the turn
+pub counts_one : (gave : List Event) (result : Result Turn RunFault) (old begun new : PeerState) (limits : Limits)
+    → begun.session.items ≡ old.session.items → begun.octets ≡ old.octets → begun.ended ≡ old.ended
+    → TakesOne gave begun new result → Counts result old new limits
+counts_one gave result old begun new limits items count ended one =
+    counts_item result old new limits one.item
+    (record {
+      items = one.counts.items ∙ ap (λ (n : ℕ). n + 1) items;
+      octets = one.counts.octets ∙ count;
+      ended = one.counts.ended ∙ ended;
+    })
 
-pub turned_held : (events : List Event) (effects : List Effect) (left : Option (List Event))
-    (result : Result Turn RunFault) (new : PeerState)
-    → TookItem events effects new result → Turned events effects left left result new
-turned_held events effects left result new took =
-    turned_item events [] effects left left result new (gave_none left)
-    (subst (λ (es : List Event). TookItem es effects new result) (sym (append-nil events)) took)
+-- a turn that took an item of an event that came, or of no new one
+pub turned_one : (events gave : List Event) (effects : List Effect) (old_left new_left : Option (List Event))
+    (result : Result Turn RunFault) (old new : PeerState)
+    → Gave old_left gave new_left → TakesOne gave old new result → StandsFor events effects old → HadMemory result
+    → Turned events effects old_left new_left result new
+turned_one events gave effects old_left new_left result old new told one stands memory =
+    let took = one.took events effects stands memory in
+    record {
+      gave = gave;
+      more = took.effect ∷ [];
+      told = told;
+      stands = took.stands;
+      shows = subst (λ (r : Result Turn RunFault). Shows r (took.effect ∷ []) (events ++ gave) old_left new_left)
+          (sym took.told) (took.effect, refl, refl);
+    }
 
 -- a turn that took no item
 pub turned_none : (events gave : List Event) (effects : List Effect) (old_left new_left : Option (List Event))

@@ -16,7 +16,6 @@ use Rattle.session_fsm.specs.declared.items.Effect.{Effect}
 use Rattle.session_fsm.specs.declared.items.Item.TheVariants as fsm
 use Rattle.session_fsm.specs.Table.{SessionState}
 use Rattle.control_core.specs.declared.limits.RunFault.{RunFault}
-use Rattle.control_core.specs.declared.limits.RunFault.TheVariants.{OutOfMemory}
 use Rattle.control_core.specs.declared.peering.Peering.{Peering}
 use Rattle.control_core.specs.declared.peering.Turn.{Turn}
 use Rattle.control_core.specs.declared.peering.Turn.TheVariants.{Took}
@@ -25,11 +24,12 @@ use Rattle.control_core.specs.Items.{connection_after, connection_at_end, octet_
 use Rattle.control_core.specs.Items.{AreItems, AreItemsOf}
 use Rattle.control_core.specs.Effects.{HoldsAll}
 use Rattle.control_core.specs.Peers.{held_octets, peer_of}
+use Rattle.control_core.specs.States.{PeerState}
 use Rattle.control_core.specs.History.{HasFault, HoldsConnection, IsUsedUpTo, StandsFor}
 use Rattle.control_core.specs.declared.reassembly.Reassembly.{Reassembly}
 use Rattle.control_core.specs.Runs.{Runs}
 use Rattle.control_core.specs.ItemSteps.{TookRow}
-use Rattle.control_core.specs.TurnParts.{TookItem, answer_of}
+use Rattle.control_core.specs.TurnParts.{IsItem, TakesOne, TookItem, answer_of}
 use Rattle.control_core.specs.Turns.{HadMemory}
 use Rattle.control_core.proofs.ItemLaws.{needed, needed_is, needed_behind, needed_more, none_needed, fault_needed}
 use Rattle.control_core.proofs.ItemLaws.{still_faulty, brought, connection_at_end-append}
@@ -138,6 +138,40 @@ pub answered : (P : Result Turn RunFault → Type 0) (taken : Result (Option Res
     → ((reset : Option ResetCause) → Q reset → P (Ok (Took reset))) → P result
 answered P (Ok reset) result Q is same had make = subst P (sym same) (make reset is)
 answered P (Err failed) result Q is same had make = absurd (subst HadMemory same had)
+
+item_answered : (taken : Result (Option ResetCause) memory.OutOfMemory) (result : Result Turn RunFault)
+    → result ≡ answer_of taken → IsItem result
+item_answered (Ok reset) result same = subst IsItem (sym same) tt
+item_answered (Err failed) result same = subst IsItem (sym same) refl
+
+-- a call took an item of the octets held, or of an event
+pub takes_one : (gave : List Event) (old new : PeerState) (taken : Result (Option ResetCause) memory.OutOfMemory)
+    (result : Result Turn RunFault)
+    → new.session.config ≡ old.session.config → new.session.items ≡ old.session.items + 1
+    → new.octets ≡ old.octets → new.ended ≡ old.ended → new.number ≡ old.number → result ≡ answer_of taken
+    → (SameBut old new → (events : List Event) (effects : List Effect) → StandsFor events effects old
+    → HadMemory result → TookItem (events ++ gave) effects new result)
+    → TakesOne gave old new result
+takes_one gave old new taken result config items count ended number answer took = record {
+  took = took (record { config = config; items = items; octets = count });
+  counts = record { items = items; octets = count; ended = ended };
+  item = item_answered taken result answer;
+  number = number;
+  config = config;
+}
+
+pub takes_held : (old new : PeerState) (taken : Result (Option ResetCause) memory.OutOfMemory)
+    (result : Result Turn RunFault)
+    → new.session.config ≡ old.session.config → new.session.items ≡ old.session.items + 1
+    → new.octets ≡ old.octets → new.ended ≡ old.ended → new.number ≡ old.number → result ≡ answer_of taken
+    → (SameBut old new → (events : List Event) (effects : List Effect) → StandsFor events effects old
+    → HadMemory result → TookItem events effects new result)
+    → TakesOne [] old new result
+takes_held old new taken result config items count ended number answer took =
+    takes_one [] old new taken result config items count ended number answer
+    (λ same events effects stands memory.
+    subst (λ (es : List Event). TookItem es effects new result) (sym (append-nil events))
+    (took same events effects stands memory))
 
 -- the message in front was taken
 pub took_message : (events : List Event) (effects : List Effect) (old new : Peering) (kind : MsgKind)

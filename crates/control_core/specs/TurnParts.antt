@@ -11,6 +11,7 @@ use Rattle.control_core.specs.declared.peering.Turn.{Turn}
 use Rattle.control_core.specs.declared.peering.Turn.TheVariants.{Took, Octets, End}
 use Rattle.control_core.specs.History.{StandsFor}
 use Rattle.control_core.specs.ItemSteps.{reset_of}
+use Rattle.control_core.specs.Turns.{HadMemory}
 
 -- one item of these events was taken, and its effect is told
 pub record TookItem (events : List Event) (effects : List Effect) (new : PeerState)
@@ -36,3 +37,12 @@ IsItem (Ok (Took reset)) = Unit {0}
 IsItem (Ok Octets) = ⊥
 IsItem (Ok (End rest)) = ⊥
 IsItem (Err fault) = fault ≡ OutOfMemory
+
+-- a call of a session that takes one item: of the octets that it held where no event came, and else of that event
+pub record TakesOne (gave : List Event) (old new : PeerState) (result : Result Turn RunFault) : Type 0 where
+  pub took : (events : List Event) (effects : List Effect) → StandsFor events effects old → HadMemory result
+      → TookItem (events ++ gave) effects new result
+  pub counts : CountsItem old new
+  pub item : IsItem result
+  pub number : new.number ≡ old.number
+  pub config : new.session.config ≡ old.session.config

@@ -9,7 +9,7 @@ ghost use Rattle.urpf_base.specs.Faults.{CountsFault};
 ghost use Rattle.session_fsm.specs.declared.items.Effect.{Effect};
 ghost use Rattle.control_core.specs.History.{StandsFor};
 ghost use Rattle.control_core.specs.Peers.{peer_of};
-ghost use Rattle.control_core.specs.TurnParts.{CountsItem, IsItem, TookItem, answer_of};
+ghost use Rattle.control_core.specs.TurnParts.{TakesOne, answer_of};
 ghost use Rattle.control_core.specs.Turns.{Counts, HadMemory, IsTurnFault, Turned};
 
 use crate::item_step::take_item;
@@ -92,13 +92,7 @@ impl Peering {
         requires message { IsMessage self.old.reassembly.framer }
         requires kind { kind ≡ kind_of (type_field self.old.reassembly.framer) }
         requires fits { FitsKind kind (length self.old.reassembly.framer) }
-        ensures took { (events : List Event) (effects : List Effect)
-            → StandsFor events effects (peer_of self.old) → HadMemory result
-            → TookItem events effects (peer_of self.new) result }
-        ensures counts { CountsItem (peer_of self.old) (peer_of self.new) }
-        ensures item { IsItem result }
-        ensures number { self.new.number ≡ self.old.number }
-        ensures config { self.new.session.config ≡ self.old.session.config }
+        ensures { TakesOne [] (peer_of self.old) (peer_of self.new) result }
     {
         let item = Item::Message(kind, self.reassembly.framer.body());
         let taken = take_item(&mut self.session, &mut self.rib, item);
@@ -110,13 +104,7 @@ impl Peering {
     fn take_fault(&mut self, subcode: u8) -> Result<Turn, RunFault>
         requires counted { self.old.session.items < 2 ^ 63 }
         requires faulty { IsFaulty self.old.reassembly.framer subcode }
-        ensures took { (events : List Event) (effects : List Effect)
-            → StandsFor events effects (peer_of self.old) → HadMemory result
-            → TookItem events effects (peer_of self.new) result }
-        ensures counts { CountsItem (peer_of self.old) (peer_of self.new) }
-        ensures item { IsItem result }
-        ensures number { self.new.number ≡ self.old.number }
-        ensures config { self.new.session.config ≡ self.old.session.config }
+        ensures { TakesOne [] (peer_of self.old) (peer_of self.new) result }
     {
         let taken = take_item(&mut self.session, &mut self.rib, Item::HeaderFault(subcode));
         self.reassembly.stop();
@@ -161,13 +149,7 @@ impl Peering {
         requires counted { self.old.session.items < 2 ^ 63 }
         requires short { IsShort self.old.reassembly.framer }
         requires none { self.old.reassembly.waiting ≡ [] }
-        ensures took { (events : List Event) (effects : List Effect)
-            → StandsFor events effects (peer_of self.old) → HadMemory result
-            → TookItem (events ++ up ∷ []) effects (peer_of self.new) result }
-        ensures counts { CountsItem (peer_of self.old) (peer_of self.new) }
-        ensures item { IsItem result }
-        ensures number { self.new.number ≡ self.old.number }
-        ensures config { self.new.session.config ≡ self.old.session.config }
+        ensures { TakesOne (up ∷ []) (peer_of self.old) (peer_of self.new) result }
     {
         self.reassembly.begin();
         answer(take_item(&mut self.session, &mut self.rib, Item::Up))
@@ -178,13 +160,7 @@ impl Peering {
         requires counted { self.old.session.items < 2 ^ 63 }
         requires short { IsShort self.old.reassembly.framer }
         requires none { self.old.reassembly.waiting ≡ [] }
-        ensures took { (events : List Event) (effects : List Effect)
-            → StandsFor events effects (peer_of self.old) → HadMemory result
-            → TookItem (events ++ down ∷ []) effects (peer_of self.new) result }
-        ensures counts { CountsItem (peer_of self.old) (peer_of self.new) }
-        ensures item { IsItem result }
-        ensures number { self.new.number ≡ self.old.number }
-        ensures config { self.new.session.config ≡ self.old.session.config }
+        ensures { TakesOne (down ∷ []) (peer_of self.old) (peer_of self.new) result }
     {
         self.reassembly.stop();
         answer(take_item(&mut self.session, &mut self.rib, Item::Down))
@@ -195,13 +171,7 @@ impl Peering {
         requires counted { self.old.session.items < 2 ^ 63 }
         requires short { IsShort self.old.reassembly.framer }
         requires none { self.old.reassembly.waiting ≡ [] }
-        ensures took { (events : List Event) (effects : List Effect)
-            → StandsFor events effects (peer_of self.old) → HadMemory result
-            → TookItem (events ++ elapsed seconds ∷ []) effects (peer_of self.new) result }
-        ensures counts { CountsItem (peer_of self.old) (peer_of self.new) }
-        ensures item { IsItem result }
-        ensures number { self.new.number ≡ self.old.number }
-        ensures config { self.new.session.config ≡ self.old.session.config }
+        ensures { TakesOne (elapsed seconds ∷ []) (peer_of self.old) (peer_of self.new) result }
     {
         answer(take_item(&mut self.session, &mut self.rib, Item::Elapsed(seconds)))
     }

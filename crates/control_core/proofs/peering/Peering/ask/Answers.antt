@@ -5,9 +5,9 @@ use Rattle.control_core.specs.Items.{IsRest}
 use Rattle.control_core.specs.Peers.{peer_of}
 use Rattle.control_core.specs.Turns.{Shows}
 use Rattle.control_core.specs.declared.peering.Turn.{Turn}
-use Rattle.control_core.proofs.TurnEnds.{counts_item, emptied, gave_none, no_event, rest_is, stands_unfilled}
+use Rattle.control_core.proofs.TurnEnds.{counts_one, emptied, gave_none, no_event, rest_is, stands_unfilled}
 use Rattle.control_core.proofs.TurnLaws.{stands_with_octets}
-use Rattle.control_core.proofs.TurnEnds.{turned_item, turned_none}
+use Rattle.control_core.proofs.TurnEnds.{turned_none, turned_one}
 use Rattle.control_core.proofs.peering.Peering.ask.Goals as goal
 
 pub returns-then-room-eq0-clause-stands : goal.returns-then-room-eq0-clause-stands
@@ -18,21 +18,14 @@ returns-then-room-eq0-clause-stands g c = λ events effects stands memory.
 pub returns-in-Ok-Up-clause-stands : goal.returns-in-Ok-Up-clause-stands
 returns-in-Ok-Up-clause-stands g c = λ events effects stands memory.
     let fills = rw c.in-Ok-Up.field-0-is at c.in-Ok-Up.ensures.fills in
-    turned_item events (up ∷ []) effects (g.F.Feed.left c.args.feed.now) (g.F.Feed.left c.fill.new.feed)
-    c.come_up.result (peer_of c.come_up.new.self) fills.gave
-    (c.come_up.ensures.took events effects
-    (stands_unfilled events effects c.args.self.now _ stands c.requires.none refl refl refl refl fills.has refl)
-    memory)
+    turned_one events (up ∷ []) effects (g.F.Feed.left c.args.feed.now) (g.F.Feed.left c.fill.new.feed)
+    c.come_up.result _ (peer_of c.come_up.new.self) fills.gave c.come_up.ensures
+    (stands_unfilled events effects c.args.self.now _ stands c.requires.none refl refl refl refl fills.has refl) memory
 
 pub returns-in-Ok-Up-clause-counts : goal.returns-in-Ok-Up-clause-counts
 returns-in-Ok-Up-clause-counts g c =
-    counts_item c.come_up.result (peer_of c.args.self.now) (peer_of c.come_up.new.self) c.args.limits.now
-    c.come_up.ensures.item
-    (record {
-      items = c.come_up.ensures.counts.items;
-      octets = c.come_up.ensures.counts.octets;
-      ended = c.come_up.ensures.counts.ended;
-    })
+    counts_one (up ∷ []) c.come_up.result (peer_of c.args.self.now) _ (peer_of c.come_up.new.self) c.args.limits.now
+    refl refl refl c.come_up.ensures
 
 pub returns-in-Ok-Octets-clause-stands : goal.returns-in-Ok-Octets-clause-stands
 returns-in-Ok-Octets-clause-stands g c = λ events effects stands memory.
@@ -49,39 +42,26 @@ returns-in-Ok-Octets-clause-stands g c = λ events effects stands memory.
 pub returns-in-Ok-Down-clause-stands : goal.returns-in-Ok-Down-clause-stands
 returns-in-Ok-Down-clause-stands g c = λ events effects stands memory.
     let fills = rw c.in-Ok-Down.field-0-is at c.in-Ok-Down.ensures.fills in
-    turned_item events (down ∷ []) effects (g.F.Feed.left c.args.feed.now) (g.F.Feed.left c.fill.new.feed)
-    c.go_down.result (peer_of c.go_down.new.self) fills.gave
-    (c.go_down.ensures.took events effects
-    (stands_unfilled events effects c.args.self.now _ stands c.requires.none refl refl refl refl fills.has refl)
-    memory)
+    turned_one events (down ∷ []) effects (g.F.Feed.left c.args.feed.now) (g.F.Feed.left c.fill.new.feed)
+    c.go_down.result _ (peer_of c.go_down.new.self) fills.gave c.go_down.ensures
+    (stands_unfilled events effects c.args.self.now _ stands c.requires.none refl refl refl refl fills.has refl) memory
 
 pub returns-in-Ok-Down-clause-counts : goal.returns-in-Ok-Down-clause-counts
 returns-in-Ok-Down-clause-counts g c =
-    counts_item c.go_down.result (peer_of c.args.self.now) (peer_of c.go_down.new.self) c.args.limits.now
-    c.go_down.ensures.item
-    (record {
-      items = c.go_down.ensures.counts.items;
-      octets = c.go_down.ensures.counts.octets;
-      ended = c.go_down.ensures.counts.ended;
-    })
+    counts_one (down ∷ []) c.go_down.result (peer_of c.args.self.now) _ (peer_of c.go_down.new.self) c.args.limits.now
+    refl refl refl c.go_down.ensures
 
 pub returns-in-Ok-Elapsed-clause-stands : goal.returns-in-Ok-Elapsed-clause-stands
 returns-in-Ok-Elapsed-clause-stands g c = λ events effects stands memory.
     let fills = rw c.in-Ok-Elapsed.field-0-is at c.in-Ok-Elapsed.ensures.fills in
-    turned_item events (elapsed c.in-Ok-Elapsed.seconds ∷ []) effects (g.F.Feed.left c.args.feed.now)
-    (g.F.Feed.left c.fill.new.feed) c.pass.result (peer_of c.pass.new.self) fills.gave
-    (c.pass.ensures.took events effects
-    (stands_unfilled events effects c.args.self.now _ stands c.requires.none refl refl refl refl fills.has refl)
-    memory)
+    turned_one events (elapsed c.in-Ok-Elapsed.seconds ∷ []) effects (g.F.Feed.left c.args.feed.now) (g.F.Feed.left c.fill.new.feed)
+    c.pass.result _ (peer_of c.pass.new.self) fills.gave c.pass.ensures
+    (stands_unfilled events effects c.args.self.now _ stands c.requires.none refl refl refl refl fills.has refl) memory
 
 pub returns-in-Ok-Elapsed-clause-counts : goal.returns-in-Ok-Elapsed-clause-counts
 returns-in-Ok-Elapsed-clause-counts g c =
-    counts_item c.pass.result (peer_of c.args.self.now) (peer_of c.pass.new.self) c.args.limits.now c.pass.ensures.item
-    (record {
-      items = c.pass.ensures.counts.items;
-      octets = c.pass.ensures.counts.octets;
-      ended = c.pass.ensures.counts.ended;
-    })
+    counts_one (elapsed c.in-Ok-Elapsed.seconds ∷ []) c.pass.result (peer_of c.args.self.now) _ (peer_of c.pass.new.self) c.args.limits.now
+    refl refl refl c.pass.ensures
 
 pub returns-in-Ok-End-clause-stands : goal.returns-in-Ok-End-clause-stands
 returns-in-Ok-End-clause-stands g c = λ events effects stands memory.

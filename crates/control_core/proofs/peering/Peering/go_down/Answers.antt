@@ -1,11 +1,13 @@
-use Rattle.std.proofs.Common.{refl}
-use Rattle.control_core.proofs.TurnLaws.{took_down}
+use Rattle.std.proofs.Common.{[], ◌∷◌, refl}
+use Rattle.feed_io.specs.Events.{down}
+use Rattle.control_core.proofs.TurnLaws.{takes_one, took_down}
 use Rattle.control_core.proofs.peering.Peering.go_down.Goals as goal
 
-pub returns-clause-took : goal.returns-clause-took
-returns-clause-took c = λ events effects stands memory.
-    took_down events effects c.args.self.now _ c.take_item.result c.answer.result stands c.requires.short
-    c.requires.none
-    (record { config = c.take_item.ensures.config; items = c.take_item.ensures.items; octets = refl })
-    c.stop.ensures.framer c.stop.ensures.waiting c.stop.ensures.receiving
-    c.take_item.ensures.took c.answer.ensures memory
+pub returns : goal.returns
+returns c =
+    takes_one (down ∷ []) _ _ c.take_item.result c.answer.result
+    c.take_item.ensures.config c.take_item.ensures.items refl refl refl c.answer.ensures
+    (λ same events effects stands memory.
+    took_down events effects c.args.self.now _ c.take_item.result c.answer.result stands c.requires.short c.requires.none
+    same c.stop.ensures.framer c.stop.ensures.waiting c.stop.ensures.receiving
+    c.take_item.ensures.took c.answer.ensures memory)

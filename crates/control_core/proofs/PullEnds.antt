@@ -76,14 +76,17 @@ pulled_until events effects old_left mid_left new_left old_held new_held (ReadFa
     pulled_so_far events effects old_left new_left old_held new_held (Err (ReadFault session)) old new
     (so_far_none old.number events effects old_left mid_left new_left old_held new_held mid new
     (Err (ReadFault session)) far turned turned.shows) (counts.1 ∙ unmet) tt
-pulled_until events effects old_left mid_left new_left old_held new_held WriteFault old mid new limits far turned unmet counts had = absurd counts
-pulled_until events effects old_left mid_left new_left old_held new_held (ItemLimit session) old mid new limits far turned unmet counts had = absurd counts
+pulled_until events effects old_left mid_left new_left old_held new_held WriteFault old mid new limits far
+    turned unmet counts had = absurd counts
+pulled_until events effects old_left mid_left new_left old_held new_held (ItemLimit session) old mid new limits far
+    turned unmet counts had = absurd counts
 pulled_until events effects old_left mid_left new_left old_held new_held (OctetLimit session) old mid new limits far
     turned unmet counts had =
     pulled_so_far events effects old_left new_left old_held new_held (Err (OctetLimit session)) old new
     (so_far_none old.number events effects old_left mid_left new_left old_held new_held mid new
     (Err (OctetLimit session)) far turned turned.shows) (counts.1 ∙ unmet) tt
-pulled_until events effects old_left mid_left new_left old_held new_held OutOfMemory old mid new limits far turned unmet counts had = absurd had
+pulled_until events effects old_left mid_left new_left old_held new_held OutOfMemory old mid new limits far
+    turned unmet counts had = absurd had
 
 -- what a sink took of the end line, by the two clauses that say so
 pub took_end : (result : Result (Unit {0}) RunFault) (old new : Option (List ℕ)) (line : List ℕ)

@@ -71,7 +71,8 @@ reset_lines-append session number (first ∷ effects) later =
     ∙ ap (λ (n : ℕ). reset_lines session number (first ∷ effects) ++ reset_lines session n later) same
 
 -- how far a pull has come, from where it began
-pub record SoFar (session : ℕ) (events : List Event) (effects : List Effect) (old_left left : Option (List Event)) (old_held held : Option (List ℕ)) (now : PeerState) : Type 0 where
+pub record SoFar (session : ℕ) (events : List Event) (effects : List Effect) (old_left left : Option (List Event))
+    (old_held held : Option (List ℕ)) (now : PeerState) : Type 0 where
   pub gave : List Event
   pub more : List Effect
   pub told : Gave old_left gave left
@@ -119,7 +120,8 @@ so_far_none session events effects old_left mid_left new_left old_held held mid 
 }
 
 -- the item that a turn took, and how many there are then
-pub record OneMore (session : ℕ) (events : List Event) (effects : List Effect) (old_left new_left : Option (List Event)) (old_held mid_held : Option (List ℕ)) (reset : Option ResetCause) (new : PeerState) : Type 0 where
+pub record OneMore (session : ℕ) (events : List Event) (effects : List Effect) (old_left new_left : Option (List Event))
+    (old_held mid_held : Option (List ℕ)) (reset : Option ResetCause) (new : PeerState) : Type 0 where
   pub gave : List Event
   pub more : List Effect
   pub effect : Effect

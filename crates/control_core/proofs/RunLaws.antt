@@ -78,7 +78,8 @@ grows config before state (item ∷ items) effects last runs =
     (runs.0.1 ∷ rest.0, rest.1 ∙ append_assoc before (runs.0.1 ∷ []) rest.0)
 
 -- a run of items in two parts: of the first, and from there on of the others
-pub record InParts (config : SessionConfig) (before : List Effect) (state : State) (items : List Item) (effects : List Effect) : Type 0 where
+pub record InParts (config : SessionConfig) (before : List Effect) (state : State) (items : List Item)
+    (effects : List Effect) : Type 0 where
   pub first : List Effect
   pub later : List Effect
   pub mid : State

@@ -27,7 +27,13 @@ impl Model for Control {
 
     ghost coded = { Prim.hlevel (codes, routes_code) };
 
-    ghost view = { λ c. record { peer = peer_of c.peering; published = c.published; number = c.number; limits = c.limits; exhausted = c.exhausted } };
+    ghost view = { λ c. record {
+      peer = peer_of c.peering;
+      published = c.published;
+      number = c.number;
+      limits = c.limits;
+      exhausted = c.exhausted;
+    } };
 
     ghost invariant = { λ c. c.limits.items ≤ 1000000000 };
 }

@@ -19,8 +19,17 @@ use Rattle.router_config.specs.Documents.{as_number, number_at}
 use Rattle.router_config.specs.Edits.{edited, edited_row}
 use Rattle.router_config.specs.Kinds.{Row, kind_in}
 use Rattle.router_config.specs.Rules.{Rule, as_hold, configured, each, first_broken, has_number, hold_of, iface_of}
-use Rattle.router_config.specs.Rules.{interface_rules, interfaces_of, interfaces_rules, is_free, is_hold, max_of, mode_of}
-use Rattle.router_config.specs.Rules.{peer_as_of, role_of, rule, rules, session_rules, sessions_at, sessions_of, sessions_rules}
+use Rattle.router_config.specs.Rules.{
+  interface_rules,
+  interfaces_of,
+  interfaces_rules,
+  is_free,
+  is_hold,
+  max_of,
+  mode_of,
+}
+use Rattle.router_config.specs.Rules.{peer_as_of, role_of, rule, rules, session_rules, sessions_at, sessions_of}
+use Rattle.router_config.specs.Rules.{sessions_rules}
 use Rattle.router_config.specs.Settings.{kind_at, kind_of, kind_with, row_of, rows_below, session_of}
 use Rattle.router_config.specs.Settings.{session_with, settings_of}
 use Rattle.router_config.specs.declared.edits.Edit.{Edit}
@@ -67,7 +76,8 @@ number_within low high (table fields) n is = cc
 
 at_within : (key : List ℕ) (low high : ℕ) (place : Data) (n : ℕ) → number_at key low high place ≡ Some n
     → (low ≤ n) × (n ≤ high)
-at_within key low high place n is = then_some _ (as_number low high) (get key place) n (λ v. number_within low high v n) is
+at_within key low high place n is = then_some _ (as_number low high) (get key place) n
+    (λ v. number_within low high v n) is
 
 max_within : (o : Option Data) (n : ℕ) → option_map_or (as_number 1 4000000) o (Some 2000000) ≡ Some n
     → (1 ≤ n) × (n ≤ 4000000)
@@ -104,7 +114,8 @@ record Parts (iface peer hold most : Option ℕ) (session : SessionConfig) : Typ
   hold_is : hold ≡ Some session.hold
   most_is : most ≡ Some session.max
 
-parts_of : (iface peer hold most : Option ℕ) (session : SessionConfig) → session_with iface peer hold most ≡ Some session
+parts_of : (iface peer hold most : Option ℕ) (session : SessionConfig) → session_with iface peer hold most ≡ Some
+    session
     → Parts iface peer hold most session
 parts_of None peer hold most session is = cc
 parts_of (Some i) None hold most session is = cc
@@ -235,7 +246,8 @@ used_known interfaces number n known most is =
     let free = free_known (is_free interfaces number) number n is in
     subst (IsConfigured (rows_below interfaces 64)) free.1
     (row_known interfaces number 64
-    (kind_found number interfaces known (not_false (list_any (has_number number) interfaces) free.0)) (omega (arith, most)))
+    (kind_found number interfaces known (not_false (list_any (has_number number) interfaces) free.0))
+    (omega (arith, most)))
 
 iface_read : (interfaces : List Data) (o : Option ℕ) (n : ℕ) → AllByRecursion (λ one. IsSome (kind_of one)) interfaces
     → ((m : ℕ) → o ≡ Some m → m ≤ 63) → option_and_then (configured interfaces) o ≡ Some n
@@ -292,7 +304,8 @@ few_sessions interfaces document none =
     (kept_rule few others (kept_rule array (few ∷ others) none).1).0
 
 -- a document that breaks no rule
-pub settings_configured : (document : Data) → first_broken (rules document) ≡ None → AreConfigured (settings_of document)
+pub settings_configured : (document : Data) → first_broken (rules document) ≡ None → AreConfigured
+    (settings_of document)
 settings_configured document none =
     let interfaces = interfaces_of document in
     let top = kept_rule (top_rule document) (interfaces_rules interfaces ++ sessions_rules interfaces document) none in
@@ -330,7 +343,8 @@ edited_session edit rows session is = record {
   most = is.most;
 }
 
-all_by : {X : Type 0} (P Q : X → Type 0) (xs : List X) → ((x : X) → P x → Q x) → AllByRecursion P xs → AllByRecursion Q xs
+all_by : {X : Type 0} (P Q : X → Type 0) (xs : List X) → ((x : X) → P x → Q x) → AllByRecursion P xs →
+    AllByRecursion Q xs
 all_by P Q [] by all = tt
 all_by P Q (x ∷ xs) by all = (by x all.0, all_by P Q xs by all.1)
 

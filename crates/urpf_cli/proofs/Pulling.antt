@@ -131,7 +131,8 @@ met_below run at count limits old new gave rest effects ended few octets own sta
     let count : octet_count run.all ≡ octet_count gave + octet_count rest = octets_parted run.all gave rest same in
     let none_left : octet_count rest ≡ 0 = ap octet_count (none met) in
     (omega (arith, items, stands.counted, full met), omega (arith, given, stands.octets, count, none_left))
-met_below run at count limits old new gave rest effects ended few octets own stands same full none (inr (unmet, inr on)) is =
+met_below run at count limits old new gave rest effects ended few octets own stands same full none (inr
+    (unmet, inr on)) is =
     let clash : true ≡ false = sym is ∙ on.0 in cc
 
 -- where a pull that ended well leads, and what it wrote

@@ -54,14 +54,15 @@ returns-in-Ok-Down-clause-counts g c =
 pub returns-in-Ok-Elapsed-clause-stands : goal.returns-in-Ok-Elapsed-clause-stands
 returns-in-Ok-Elapsed-clause-stands g c = λ events effects stands memory.
     let fills = rw c.in-Ok-Elapsed.field-0-is at c.in-Ok-Elapsed.ensures.fills in
-    turned_one events (elapsed c.in-Ok-Elapsed.seconds ∷ []) effects (g.F.Feed.left c.args.feed.now) (g.F.Feed.left c.fill.new.feed)
-    c.pass.result _ (peer_of c.pass.new.self) fills.gave c.pass.ensures
+    turned_one events (elapsed c.in-Ok-Elapsed.seconds ∷ []) effects (g.F.Feed.left c.args.feed.now)
+    (g.F.Feed.left c.fill.new.feed) c.pass.result _ (peer_of c.pass.new.self) fills.gave c.pass.ensures
     (stands_unfilled events effects c.args.self.now _ stands c.requires.none refl refl refl refl fills.has refl) memory
 
 pub returns-in-Ok-Elapsed-clause-counts : goal.returns-in-Ok-Elapsed-clause-counts
 returns-in-Ok-Elapsed-clause-counts g c =
-    counts_one (elapsed c.in-Ok-Elapsed.seconds ∷ []) c.pass.result (peer_of c.args.self.now) _ (peer_of c.pass.new.self) c.args.limits.now
-    refl refl refl c.pass.ensures
+    counts_one (elapsed c.in-Ok-Elapsed.seconds ∷ []) c.pass.result (peer_of c.args.self.now) _
+    (peer_of c.pass.new.self)
+    c.args.limits.now refl refl refl c.pass.ensures
 
 pub returns-in-Ok-End-clause-stands : goal.returns-in-Ok-End-clause-stands
 returns-in-Ok-End-clause-stands g c = λ events effects stands memory.

@@ -8,6 +8,7 @@ returns c =
     takes_one (down ∷ []) _ _ c.take_item.result c.answer.result
     c.take_item.ensures.config c.take_item.ensures.items refl refl refl c.answer.ensures
     (λ same events effects stands memory.
-    took_down events effects c.args.self.now _ c.take_item.result c.answer.result stands c.requires.short c.requires.none
+    took_down events effects c.args.self.now _ c.take_item.result c.answer.result stands c.requires.short
+    c.requires.none
     same c.stop.ensures.framer c.stop.ensures.waiting c.stop.ensures.receiving
     c.take_item.ensures.took c.answer.ensures memory)

@@ -5,7 +5,8 @@ use Rattle.control_core.proofs.peering.Peering.turn.Goals as goal
 
 pub returns-in-Whole-clause-stands : goal.returns-in-Whole-clause-stands
 returns-in-Whole-clause-stands g c = λ events effects stands memory.
-    turned_one events [] effects (g.F.Feed.left c.args.feed.now) _ c.take_message.result _ (peer_of c.take_message.new.self)
+    turned_one events [] effects (g.F.Feed.left c.args.feed.now) _ c.take_message.result _
+    (peer_of c.take_message.new.self)
     (gave_none _) c.take_message.ensures
     (stands_alike events effects (peer_of c.args.self.now) _ stands refl refl refl c.front.ensures.held
     c.front.ensures.receiving) memory

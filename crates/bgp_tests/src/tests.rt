@@ -5,7 +5,6 @@ mod opens;
 mod paths;
 mod prefix_fields;
 mod sessions;
-mod update_faults;
 mod update_mistakes;
 mod update_origins;
 mod update_routes;

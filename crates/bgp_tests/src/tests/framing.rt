@@ -14,47 +14,6 @@ fn header(first: u8, length: u16, code: u8) -> [u8; 19] {
     octets
 }
 
-/// A header by the first octet of its marker, its length and its type, and how it is judged.
-const HEADERS: [(&str, u8, u16, u8, FrameState); 13] = [
-    ("18 octets", 0xFF, 18, 4, FrameState::Fault(2)),
-    ("4097 octets", 0xFF, 4097, 2, FrameState::Fault(2)),
-    ("4096 octets", 0xFF, 4096, 2, FrameState::Partial(19)),
-    ("KEEPALIVE of 20", 0xFF, 20, 4, FrameState::Fault(2)),
-    ("OPEN of 28", 0xFF, 28, 1, FrameState::Fault(2)),
-    ("UPDATE of 22", 0xFF, 22, 2, FrameState::Fault(2)),
-    ("NOTIFICATION of 20", 0xFF, 20, 3, FrameState::Fault(2)),
-    ("route refresh", 0xFF, 23, 5, FrameState::Fault(3)),
-    ("type 0", 0xFF, 19, 0, FrameState::Fault(3)),
-    ("marker FE", 0xFE, 19, 4, FrameState::Fault(1)),
-    ("marker FE, 18 octets", 0xFE, 18, 4, FrameState::Fault(1)),
-    ("18 octets, type 5", 0xFF, 18, 5, FrameState::Fault(2)),
-    (
-        "KEEPALIVE",
-        0xFF,
-        19,
-        4,
-        FrameState::Whole(MsgKind::Keepalive),
-    ),
-];
-
-/// That each header is judged so.
-fn are_judged(rt: &impl Abort, rows: &[(&str, u8, u16, u8, FrameState)]) {
-    for row in rows {
-        let (name, first, length, code, state) = *row;
-        let mut framer = Framer::new();
-        assert_eq!(rt; framer.push(&header(first, length, code)), 19, "{name}");
-        assert_eq!(rt; framer.state(), state, "{name}");
-    }
-}
-
-#[test]
-fn a_header_is_judged_by_its_first_fault(rt: HostRuntime) {
-    are_judged(&rt, &HEADERS);
-    assigned_numbers();
-    header_decides();
-    one_framing();
-}
-
 #[test]
 fn eighteen_octets_are_no_header(rt: HostRuntime) {
     let mut framer = Framer::new();
@@ -62,6 +21,9 @@ fn eighteen_octets_are_no_header(rt: HostRuntime) {
     assert_eq!(rt; framer.state(), FrameState::Partial(18));
     framer.clear();
     assert_eq!(rt; framer.state(), FrameState::Partial(0));
+    assigned_numbers();
+    header_decides();
+    one_framing();
 }
 
 /// Takes the piece where more may come.

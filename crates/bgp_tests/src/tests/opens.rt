@@ -43,62 +43,22 @@ const IPV6: Answer = Answer::Seen {
 };
 
 /// Whole bodies: version, AS, hold time, identifier, length of the parameters.
-const BODIES: [(&str, &[u8], Answer); 11] = [
+const BODIES: [(&str, &[u8], Answer); 3] = [
     (
         "two octets",
         b"\x04\xFB\xF5\x00\x5A\xC0\x00\x02\x01\x00",
         PLAIN,
-    ),
-    (
-        "version 3, hold 2",
-        b"\x03\xFB\xF5\x00\x02\xC0\x00\x02\x01\x00",
-        Answer::Fault(1),
-    ),
-    (
-        "hold 2",
-        b"\x04\xFB\xF5\x00\x02\xC0\x00\x02\x01\x00",
-        Answer::Fault(6),
-    ),
-    (
-        "hold 1",
-        b"\x04\xFB\xF5\x00\x01\xC0\x00\x02\x01\x00",
-        Answer::Fault(6),
-    ),
-    (
-        "hold 2, identifier 0",
-        b"\x04\xFB\xF5\x00\x02\x00\x00\x00\x00\x00",
-        Answer::Fault(6),
-    ),
-    (
-        "identifier 0",
-        b"\x04\xFB\xF5\x00\x5A\x00\x00\x00\x00\x00",
-        Answer::Fault(3),
-    ),
-    (
-        "identifier 0, missing parameters",
-        b"\x04\xFB\xF5\x00\x5A\x00\x00\x00\x00\x01",
-        Answer::Fault(3),
-    ),
-    (
-        "missing parameters",
-        b"\x04\xFB\xF5\x00\x5A\xC0\x00\x02\x01\x01",
-        Answer::Fault(0),
-    ),
-    (
-        "missing parameters, other AS",
-        b"\x04\xFB\xF6\x00\x5A\xC0\x00\x02\x01\x01",
-        Answer::Fault(0),
-    ),
-    (
-        "other AS",
-        b"\x04\xFB\xF6\x00\x5A\xC0\x00\x02\x01\x00",
-        Answer::Fault(2),
     ),
     // My Autonomous System is 23456, AS_TRANS, and capability 65 has the AS.
     (
         "AS_TRANS beside 65",
         b"\x04\x5B\xA0\x00\x5A\xC0\x00\x02\x01\x08\x02\x06\x41\x04\x00\x00\xFB\xF5",
         FOUR_OCTET,
+    ),
+    (
+        "hold 2, identifier 0",
+        b"\x04\xFB\xF5\x00\x02\x00\x00\x00\x00\x00",
+        Answer::Fault(6),
     ),
 ];
 
@@ -120,7 +80,7 @@ fn an_open_is_judged_by_its_first_fault(rt: HostRuntime) {
 const HEAD: [u8; 9] = [0x04, 0xFB, 0xF5, 0x00, 0x5A, 0xC0, 0x00, 0x02, 0x01];
 
 /// The length of the parameters and the parameters, which come behind that head.
-const PARAMETERS: [(&str, &[u8], Answer); 13] = [
+const PARAMETERS: [(&str, &[u8], Answer); 5] = [
     (
         "65 behind an unknown capability",
         b"\x0C\x02\x02\x02\x00\x02\x06\x41\x04\x00\x00\xFB\xF5",
@@ -145,42 +105,6 @@ const PARAMETERS: [(&str, &[u8], Answer); 13] = [
         "65 twice, the last counts",
         b"\x0E\x02\x0C\x41\x04\x00\x00\xFB\xF6\x41\x04\x00\x00\xFB\xF5",
         FOUR_OCTET,
-    ),
-    (
-        "65 in two parameters, the last is of another AS",
-        b"\x10\x02\x06\x41\x04\x00\x00\xFB\xF5\x02\x06\x41\x04\x00\x00\xFB\xF6",
-        Answer::Fault(2),
-    ),
-    ("type 1", b"\x02\x01\x00", Answer::Fault(4)),
-    (
-        "a parameter runs past the list",
-        b"\x02\x02\x01",
-        Answer::Fault(0),
-    ),
-    (
-        "type 1, and then one runs past the list",
-        b"\x04\x01\x00\x02\x01",
-        Answer::Fault(0),
-    ),
-    (
-        "type 1, and then 65 of three octets",
-        b"\x09\x01\x00\x02\x05\x41\x03\x00\xFB\xF5",
-        Answer::Fault(4),
-    ),
-    (
-        "65 of three octets, and then type 1",
-        b"\x09\x02\x05\x41\x03\x00\xFB\xF5\x01\x00",
-        Answer::Fault(0),
-    ),
-    (
-        "a capability runs past its parameter",
-        b"\x04\x02\x02\x02\x01",
-        Answer::Fault(0),
-    ),
-    (
-        "type 1, and 65 of another AS",
-        b"\x0A\x02\x06\x41\x04\x00\x00\xFB\xF6\x01\x00",
-        Answer::Fault(4),
     ),
 ];
 

@@ -1,0 +1,12 @@
+//! The source sets of a router, computed from the routes of all its sessions: feasible paths and
+//! loose mode (RFC 3704, section 2), and enhanced feasible paths by Algorithms A and B (RFC 8704,
+//! section 3).
+//!
+//! Rows go in and out, roles change, and a drain answers for which prefixes the sets changed.
+#![tactic(auto)]
+
+mod engine;
+mod rows;
+
+pub use engine::SetEngine;
+pub use rows::Row;

@@ -6,6 +6,8 @@
 #![tactic(auto)]
 
 mod engine;
+mod origins;
+mod row_map;
 mod rows;
 
 pub use engine::SetEngine;

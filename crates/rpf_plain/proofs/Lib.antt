@@ -1,2 +1,4 @@
 pub mod Orders
 pub mod Repeats
+pub mod Tables
+pub mod Turns

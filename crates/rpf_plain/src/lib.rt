@@ -5,6 +5,8 @@
 //! Rows go in and out, roles change, and a drain answers for which prefixes the sets changed.
 #![tactic(auto)]
 
+mod cells;
+mod customers;
 mod engine;
 mod origins;
 mod row_map;

@@ -1,3 +1,4 @@
+pub mod Listed
 pub mod Orders
 pub mod Repeats
 pub mod Tables

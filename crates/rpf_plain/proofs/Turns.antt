@@ -53,3 +53,14 @@ with_member m n id added others i =
         λ h. elim h [ inl a ↦ (others i other).1 a | inr e ↦ absurd (other (sym e)) ],
       )
     ]
+
+-- what is told of a row is told by other words
+pub either_by : {A E G H N : Type 0} → (N ↔ (A ⊎ (E × G))) → (G ↔ H) → (N ↔ (A ⊎ (E × H)))
+either_by told same = (
+  λ n. elim (told.0 n) [ inl a ↦ inl a | inr (e, g) ↦ inr (e, same.0 g) ],
+  λ h. told.1 (elim h [ inl a ↦ inl a | inr (e, g) ↦ inr (e, same.1 g) ]),
+)
+
+-- one after the other
+pub both : {A B C : Type 0} → (A ↔ B) → (B ↔ C) → (A ↔ C)
+both f g = (λ a. g.0 (f.0 a), λ c. f.1 (g.1 c))

@@ -19,12 +19,20 @@ fn customers_among(rows: &[(IfaceId, Kind)]) -> Mask
     ensures { (i : ℕ) → (InMask result i ↔ HasCustomer rows.now i) }
 {
     let mut customers = Mask::empty();
-    for (id, kind) in rows {
-        if kind.role == Role::Customer {
-            customers = customers.with(*id);
-        }
+    for row in rows {
+        customers = with_customer(customers, row.0, row.1.role);
     }
     customers
+}
+
+/// The set, and the interface where this is the role of a customer.
+fn with_customer(customers: Mask, id: IfaceId, role: Role) -> Mask
+    ensures { (i : ℕ) → (InMask result i ↔ (InMask customers i ⊎ ((id ≡ i) × (role ≡ Role.Customer)))) }
+{
+    match role {
+        Role::Customer => customers.with(id),
+        Role::Peer | Role::Provider => customers,
+    }
 }
 
 /// The members of both sets.
@@ -41,11 +49,10 @@ pub fn common(a: Mask, b: Mask) -> Mask
 /// The set, and the interface of this number where it is a member of both others.
 fn with_common(both: Mask, a: Mask, b: Mask, number: u16) -> Mask
     requires { number < IFACE_LIMIT }
-    ensures { (i : ℕ) → (InMask result i ↔ (InMask both i ⊎ ((number ≡ i) × InMask a i × InMask b i))) }
+    ensures both { (i : ℕ) → (InMask result i ↔ (InMask both i ⊎ ((number ≡ i) × InMask a i × InMask b i))) }
+    ensures within { (i : ℕ) → InMask a i → i < IFACE_LIMIT }
 {
-    let Some(id) = IfaceId::new(number) else {
-        return both;
-    };
+    let id = IfaceId::new(number).unwrap();
     if a.has(id) && b.has(id) {
         return both.with(id);
     }

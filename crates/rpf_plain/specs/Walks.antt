@@ -67,9 +67,13 @@ abbrev pub IsAdmitted : List Row → ℕ → Row → Type 0
 IsAdmitted rows customers row =
     InMask customers row.iface ⊎ ((origin : ℕ) × (row.origin ≡ Some origin) × InSetA rows customers origin)
 
+-- the row is of the prefix, and of a customer interface or of an origin in Set A
+abbrev pub IsForSetZ : List Row → ℕ → Block → Row → Type 0
+IsForSetZ rows customers p row = (row.prefix ≡ p) × IsAdmitted rows customers row
+
 -- the prefix is in Set Z
 abbrev pub InSetZ : List Row → ℕ → Block → Type 0
-InSetZ rows customers p = SomeRow (λ row. (row.prefix ≡ p) × IsAdmitted rows customers row) rows
+InSetZ rows customers p = SomeRow (IsForSetZ rows customers p) rows
 
 -- no prefix of the table has a cell without interfaces
 abbrev pub IsFilled : Mapped Cell → Type 0

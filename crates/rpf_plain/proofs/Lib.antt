@@ -1,6 +1,10 @@
+pub mod Changed
+pub mod Drained
 pub mod Listed
+pub mod Members
 pub mod Orders
 pub mod Reached
 pub mod Repeats
 pub mod Tables
+pub mod Told
 pub mod Turns

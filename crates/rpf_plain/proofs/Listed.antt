@@ -1,15 +1,16 @@
 -- Interfaces that customers are behind.
-use Rattle.std.proofs.Common.{◌≡◌, ◌⊎◌, ◌↔◌, ◌≤◌, ◌<◌, ◌+◌, ◌==◌, inl, inr, ℕ, zero, suc, Bool, true, false, IsTrue, List, [], ◌∷◌}
-use Rattle.std.proofs.Common.{drop, length, map, refl, sym, ap, subst, ◌∙◌, Option, Some, None, arith, add-one, drop-cons, get_or}
+use Rattle.std.proofs.Common.{◌≡◌, ◌↔◌, ◌≤◌, ◌<◌, ◌+◌, ◌==◌, inl, inr, ℕ, zero, suc, Bool, true, false, IsTrue, List, [], ◌∷◌}
+use Rattle.std.proofs.Common.{drop, length, map, refl, sym, ap, subst, ◌∙◌, Some, arith, add-one, drop-cons, get_or}
 use Rattle.std.specs.List.{AllByRecursion}
-use Rattle.std.proofs.lemmas.Bool.{eqb-true, eqb-false}
-use Rattle.urpf_base.specs.Masks.{InMask}
+use Rattle.std.proofs.lemmas.Bool.{cases_Bool, eqb-true, eqb-false}
 use Rattle.urpf_base.specs.declared.kinds.Kind.{Kind}
 use Rattle.urpf_base.specs.declared.kinds.Role.{Role}
 use Rattle.urpf_base.specs.declared.kinds.Role.TheVariants.{Customer, Peer, Provider}
+use Rattle.router_config.specs.Edits.{edited}
 use Rattle.router_config.specs.Kinds.{IsAscending}
+use Rattle.router_config.specs.declared.edits.Edit.TheVariants as edit
 use Rattle.rpf_plain.specs.Walks.{HasCustomer}
-use Rattle.rpf_plain.specs.World.{is_customer, is_customer_role, roles_of}
+use Rattle.rpf_plain.specs.World.{is_customer, is_customer_role, roles_of, with_role}
 
 drop-all : (kinds : List (ℕ × Kind)) (n : ℕ) → length kinds ≤ n → drop n kinds ≡ []
 drop-all [] zero h = refl
@@ -71,3 +72,14 @@ listed (k ∷ kinds) ascending i =
 pub rest_of : (kinds : List (ℕ × Kind)) (n : ℕ) (k : ℕ × Kind) → n < length kinds → k ≡ get_or kinds n k
     → drop n kinds ≡ k ∷ drop (n + 1) kinds
 rest_of kinds n k within is = drop-cons kinds n k within ∙ (λ i. sym is i ∷ drop (sym (add-one n) i) kinds)
+
+-- the roles once one was edited
+pub roles_edited : (iface : ℕ) (role : Role) (kinds : List (ℕ × Kind))
+    → roles_of (edited (edit.Role iface role) kinds) ≡ with_role iface role (roles_of kinds)
+roles_edited iface role [] = refl
+roles_edited iface role (k ∷ kinds) =
+    let more = roles_edited iface role kinds in
+    elim (cases_Bool (k.0 == iface)) [
+      | inl e ↦ rw e (ap (λ l. (k.0, role) ∷ l) more)
+      | inr e ↦ rw e (ap (λ l. (k.0, k.1.role) ∷ l) more)
+    ]

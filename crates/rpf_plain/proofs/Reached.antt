@@ -1,10 +1,10 @@
 -- What is known of the origin of a row, and what the row says of its prefix.
-use Rattle.std.proofs.Common.{◌≡◌, ◌⊎◌, ◌↔◌, inl, inr, ℕ, IsTrue, Option, Some, None, List, refl, subst, sym}
+use Rattle.std.proofs.Common.{◌≡◌, ◌⊎◌, ◌↔◌, inl, inr, ℕ, IsTrue, Option, Some, None, List, refl, subst}
 use Rattle.std.specs.BTreeMap.{BTreeMap}
 use Rattle.urpf_base.specs.Masks.{InMask}
 use Rattle.rpf_plain.specs.declared.origins.Reach.{Reach}
 use Rattle.rpf_plain.specs.declared.rows.Row.{Row}
-use Rattle.rpf_plain.specs.Walks.{Admits, AreReaches, InSetA, IsAdmitted, IsOfReached, Reaches, reach_of}
+use Rattle.rpf_plain.specs.Walks.{Admits, AreReaches, InSetA, IsAdmitted, Reaches, reach_of}
 
 module _ (rows : List Row) (customers : ℕ) (origins : BTreeMap ℕ Reach) (are : AreReaches rows customers origins) where
   of_set_a : (o : Option ℕ)
@@ -23,8 +23,7 @@ module _ (rows : List Row) (customers : ℕ) (origins : BTreeMap ℕ Reach) (are
   admits i (Some b) = (
     λ h. (h.1, (b, refl, (are.in_set_a b).0 h.0, (are.ifaces b i).0 h.2)),
     λ h.
-        let same : h.1.0 ≡ b = let is = h.1.1 in cc in
-        (
+        let same : h.1.0 ≡ b = let is = h.1.1 in cc in (
           (are.in_set_a b).1 (subst (InSetA rows customers) same h.1.2),
           h.0,
           (are.ifaces b i).1 (subst (λ a. Reaches rows a i) same h.1.3),

@@ -1,5 +1,5 @@
 -- Tables of cells, once a prefix was given another one.
-use Rattle.std.proofs.Common.{◌≡◌, ◌⊎◌, ◌↔◌, inl, inr, ℕ, refl, sym, ap, subst, ◌∙◌, Option, Some, None}
+use Rattle.std.proofs.Common.{◌≡◌, ◌⊎◌, ◌↔◌, inl, inr, sym, ap, subst, ◌∙◌, Some, None}
 use Rattle.std.specs.FinMap.{empty, get, insert}
 use Rattle.urpf_base.specs.Address.{Block}
 use Rattle.urpf_base.specs.declared.cells.Cell.{Cell}

@@ -1,6 +1,5 @@
 -- A walk over rows: what was found in the rows so far, and what is found in those to come, is all.
-use Rattle.std.proofs.Common.{◌≡◌, ◌≢◌, ◌⊎◌, ◌↔◌, inl, inr, ℕ, List, [], ◌∷◌, refl, sym, subst, ◌∙◌, arith}
-use Rattle.std.specs.Int.{bit_at}
+use Rattle.std.proofs.Common.{◌≡◌, ◌≢◌, ◌⊎◌, ◌↔◌, inl, inr, ℕ, List, [], ◌∷◌, refl, sym, subst, arith, IsTrue, true, false}
 use Rattle.std.proofs.lemmas.Bool.{cases_eq}
 use Rattle.urpf_base.specs.Masks.{InMask}
 use Rattle.rpf_plain.specs.declared.rows.Row.{Row}
@@ -64,3 +63,18 @@ either_by told same = (
 -- one after the other
 pub both : {A B C : Type 0} → (A ↔ B) → (B ↔ C) → (A ↔ C)
 both f g = (λ a. g.0 (f.0 a), λ c. f.1 (g.1 c))
+
+-- a row that is not so was passed over
+pub passed : {H R T : Type 0} → ((H ⊎ R) ↔ T) → (H → ⊥) → (R ↔ T)
+passed all none = (
+  λ r. all.0 (inr r),
+  λ t. elim (all.1 t) [ inl h ↦ absurd (none h) | inr r ↦ r ],
+)
+
+-- no row was so
+pub never : {R T : Type 0} → (R ↔ T) → (R → ⊥) → (IsTrue false ↔ T)
+never all none = (λ h. absurd cc, λ t. absurd (none (all.1 t)))
+
+-- this row is so
+pub one_is : {H R T : Type 0} → ((H ⊎ R) ↔ T) → H → (IsTrue true ↔ T)
+one_is all is = (λ _. all.0 (inl is), λ _. refl)

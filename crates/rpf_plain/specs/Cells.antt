@@ -40,3 +40,9 @@ pub record AreChanges (w : World) (table : Mapped Cell) (changes : List CellChan
   pub ascending : AreAscending changes
   pub each : (p : Block) (c : Cell)
       → Has changes (record { prefix = p; cell = c }) ↔ (IsCell w p c × ¬ (c ≡ cell_at table p))
+
+-- the list has each prefix whose cell is another in the new table, once and ascending, with its new cell
+pub record AreDifferences (old new : Mapped Cell) (changes : List CellChange) : Type 0 where
+  pub ascending : AreAscending changes
+  pub each : (p : Block) (c : Cell)
+      → Has changes (record { prefix = p; cell = c }) ↔ ((c ≡ cell_at new p) × ¬ (c ≡ cell_at old p))

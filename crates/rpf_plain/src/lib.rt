@@ -7,10 +7,15 @@
 
 mod cells;
 mod customers;
+mod differences;
 mod engine;
+mod one_cell;
 mod origins;
+mod plain;
 mod row_map;
 mod rows;
+mod table;
 
 pub use engine::SetEngine;
+pub use plain::PlainEngine;
 pub use rows::Row;

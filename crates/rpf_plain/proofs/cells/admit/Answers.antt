@@ -1,4 +1,4 @@
-use Rattle.std.proofs.Common.{◌≡◌, ◌⊎◌, ◌↔◌, ℕ, IsTrue, ap, subst, sym, ◌∙◌}
+use Rattle.std.proofs.Common.{◌≡◌, ◌⊎◌, ◌↔◌, IsTrue, ap, subst, sym, ◌∙◌}
 use Rattle.urpf_base.specs.Masks.{InMask}
 use Rattle.urpf_base.specs.declared.cells.Cell.{Cell}
 use Rattle.rpf_plain.specs.Cells.{cell_at}

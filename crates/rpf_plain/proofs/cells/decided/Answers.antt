@@ -1,8 +1,6 @@
-use Rattle.std.proofs.Common.{◌≡◌, ◌⊎◌, ◌↔◌, ◌∷◌, ℕ, IsTrue, List, refl, subst, sym, ap, ◌∙◌, inl, inr}
-use Rattle.urpf_base.specs.Address.{Block}
+use Rattle.std.proofs.Common.{◌≡◌, ◌⊎◌, ◌↔◌, IsTrue, refl, subst, sym, ◌∙◌, inl, inr}
 use Rattle.urpf_base.specs.Masks.{InMask}
 use Rattle.rpf_plain.specs.declared.origins.Reach.{Reach}
-use Rattle.rpf_plain.specs.declared.rows.Row.{Row}
 use Rattle.rpf_plain.specs.Cells.{cell_at}
 use Rattle.rpf_plain.specs.Kept.{each_row}
 use Rattle.rpf_plain.specs.Walks.{Admits, Hears, InListA, InSetZ, IsForSetZ, IsListed, SomeRow}

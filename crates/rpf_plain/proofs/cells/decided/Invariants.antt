@@ -1,4 +1,4 @@
-use Rattle.std.proofs.Common.{◌≡◌, ◌↔◌, ◌⊎◌, ℕ, IsTrue}
+use Rattle.std.proofs.Common.{◌↔◌, ◌⊎◌, ℕ, IsTrue}
 use Rattle.urpf_base.specs.Address.{Block}
 use Rattle.urpf_base.specs.Masks.{InMask}
 use Rattle.rpf_plain.specs.Cells.{cell_at}

@@ -1,4 +1,4 @@
-use Rattle.std.proofs.Common.{◌≡◌, ◌⊎◌, ◌↔◌, ℕ, ap, subst}
+use Rattle.std.proofs.Common.{◌≡◌, ◌⊎◌, ◌↔◌, ap, subst}
 use Rattle.urpf_base.specs.Masks.{InMask}
 use Rattle.urpf_base.specs.declared.cells.Cell.{Cell}
 use Rattle.rpf_plain.specs.Cells.{cell_at}

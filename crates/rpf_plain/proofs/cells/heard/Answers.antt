@@ -1,7 +1,5 @@
-use Rattle.std.proofs.Common.{◌≡◌, ◌⊎◌, ◌↔◌, ℕ, List, ap, subst, sym, ◌∙◌}
-use Rattle.urpf_base.specs.Address.{Block}
+use Rattle.std.proofs.Common.{◌⊎◌, ◌↔◌, ap, subst, sym, ◌∙◌}
 use Rattle.urpf_base.specs.Masks.{InMask}
-use Rattle.rpf_plain.specs.declared.rows.Row.{Row}
 use Rattle.rpf_plain.specs.Cells.{cell_at}
 use Rattle.rpf_plain.specs.Kept.{each_row}
 use Rattle.rpf_plain.specs.Walks.{Hears, IsHeard}

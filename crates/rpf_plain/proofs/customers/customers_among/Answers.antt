@@ -1,4 +1,4 @@
-use Rattle.std.proofs.Common.{◌≡◌, ◌⊎◌, ◌↔◌, ℕ, List, [], ◌<◌, ◌+◌, ◌∷◌, drop, length, arith, subst, refl}
+use Rattle.std.proofs.Common.{◌≡◌, ◌⊎◌, ◌↔◌, ◌+◌, ◌∷◌, drop, subst}
 use Rattle.urpf_base.specs.Masks.{InMask}
 use Rattle.rpf_plain.specs.Walks.{HasCustomer}
 use Rattle.rpf_plain.proofs.Listed.{no_listed, rest_of}

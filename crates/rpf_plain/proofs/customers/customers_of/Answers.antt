@@ -1,4 +1,4 @@
-use Rattle.std.proofs.Common.{◌≡◌, ◌↔◌, ℕ, IsTrue, subst}
+use Rattle.std.proofs.Common.{◌↔◌, subst}
 use Rattle.urpf_base.specs.Masks.{InMask}
 use Rattle.rpf_plain.specs.Walks.{HasCustomer}
 use Rattle.rpf_plain.proofs.Listed.{listed}

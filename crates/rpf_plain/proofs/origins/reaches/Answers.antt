@@ -1,7 +1,6 @@
-use Rattle.std.proofs.Common.{◌≡◌, ◌⊎◌, ◌↔◌, ℕ, IsTrue, false, subst, sym, ap, ◌∙◌, inl, inr}
+use Rattle.std.proofs.Common.{◌≡◌, ◌⊎◌, ◌↔◌, IsTrue, false, subst, sym, ap, ◌∙◌}
 use Rattle.urpf_base.specs.Masks.{InMask}
 use Rattle.rpf_plain.specs.Kept.{each_row}
-use Rattle.rpf_plain.specs.Cells.{cell_at}
 use Rattle.rpf_plain.specs.Walks.{Hears, InSetA, IsCustomers, IsReached, Reaches, SomeRow, reach_at}
 use Rattle.rpf_plain.proofs.Turns.{begun, done, either_by, moved, no_member, no_row}
 use Rattle.rpf_plain.proofs.origins.reaches.Goals as goal

@@ -1,4 +1,4 @@
-use Rattle.std.proofs.Common.{◌≡◌, ◌+◌, ◌-◌, ◌<◌, ◌≢◌, ℕ, ap, sym, subst, ◌∙◌, arith, ◌∷◌, Option, Some, None, refl}
+use Rattle.std.proofs.Common.{◌≡◌, ◌+◌, ◌-◌, ◌<◌, ℕ, ap, sym, subst, ◌∙◌, arith, ◌∷◌, Option, Some, None}
 use Rattle.std.specs.Option.{unwrap_or}
 use Rattle.urpf_base.specs.Lists.{Has}
 use Rattle.rpf_plain.specs.Kept.{all_rows, how_often}

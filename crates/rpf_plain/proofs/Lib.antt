@@ -1,7 +1,10 @@
+pub mod Alike
 pub mod Changed
+pub mod Counted
 pub mod Drained
 pub mod Listed
 pub mod Members
+pub mod Modal
 pub mod Orders
 pub mod Reached
 pub mod Repeats

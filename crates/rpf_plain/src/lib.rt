@@ -9,6 +9,7 @@ mod cells;
 mod customers;
 mod differences;
 mod engine;
+mod laws;
 mod one_cell;
 mod origins;
 mod plain;
@@ -17,5 +18,6 @@ mod rows;
 mod table;
 
 pub use engine::SetEngine;
+pub use laws::{cell_laws, row_laws, table_laws};
 pub use plain::PlainEngine;
 pub use rows::Row;

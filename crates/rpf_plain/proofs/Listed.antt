@@ -1,16 +1,19 @@
 -- Interfaces that customers are behind.
+use Rattle.std.proofs.Common.{Option, None}
 use Rattle.std.proofs.Common.{◌≡◌, ◌↔◌, ◌≤◌, ◌<◌, ◌+◌, ◌==◌, inl, inr, ℕ, zero, suc, Bool, true, false, IsTrue, List, [], ◌∷◌}
 use Rattle.std.proofs.Common.{drop, length, map, refl, sym, ap, subst, ◌∙◌, Some, arith, add-one, drop-cons, get_or}
 use Rattle.std.specs.List.{AllByRecursion}
 use Rattle.std.proofs.lemmas.Bool.{cases_Bool, eqb-true, eqb-false}
 use Rattle.urpf_base.specs.declared.kinds.Kind.{Kind}
+use Rattle.urpf_base.specs.declared.kinds.Mode.{Mode}
 use Rattle.urpf_base.specs.declared.kinds.Role.{Role}
+use Rattle.std.specs.Option.{IsSome, option_map}
 use Rattle.urpf_base.specs.declared.kinds.Role.TheVariants.{Customer, Peer, Provider}
 use Rattle.router_config.specs.Edits.{edited}
-use Rattle.router_config.specs.Kinds.{IsAscending}
+use Rattle.router_config.specs.Kinds.{IsAscending, kind_in}
 use Rattle.router_config.specs.declared.edits.Edit.TheVariants as edit
 use Rattle.rpf_plain.specs.Walks.{HasCustomer}
-use Rattle.rpf_plain.specs.World.{is_customer, is_customer_role, roles_of, with_role}
+use Rattle.rpf_plain.specs.World.{IsConfigured, Roles, is_customer, is_customer_role, role_in, roles_of, with_role}
 
 drop-all : (kinds : List (ℕ × Kind)) (n : ℕ) → length kinds ≤ n → drop n kinds ≡ []
 drop-all [] zero h = refl
@@ -82,4 +85,45 @@ roles_edited iface role (k ∷ kinds) =
     elim (cases_Bool (k.0 == iface)) [
       | inl e ↦ rw e (ap (λ l. (k.0, role) ∷ l) more)
       | inr e ↦ rw e (ap (λ l. (k.0, k.1.role) ∷ l) more)
+    ]
+
+-- the role of an interface is that of its kind
+role_of_kind : (kinds : List (ℕ × Kind)) (i : ℕ) → role_in (roles_of kinds) i ≡ option_map (λ k. k.role) (kind_in kinds i)
+role_of_kind [] i = refl
+role_of_kind (k ∷ kinds) i =
+    let more = role_of_kind kinds i in
+    elim (cases_Bool (k.0 == i)) [ inl e ↦ rw e refl | inr e ↦ rw e more ]
+
+some_mapped : {A B : Type 0} (f : A → B) (o : Option A) → IsSome (option_map f o) ↔ IsSome o
+some_mapped f None = (λ h. h, λ h. h)
+some_mapped f (Some a) = (λ h. refl, λ h. refl)
+
+pub configured : (kinds : List (ℕ × Kind)) (i : ℕ) → IsConfigured (roles_of kinds) i ↔ IsSome (kind_in kinds i)
+configured kinds i =
+    let told = some_mapped (λ (k : Kind). k.role) (kind_in kinds i) in
+    (
+      λ h. told.0 (subst IsSome (role_of_kind kinds i) h),
+      λ h. subst IsSome (sym (role_of_kind kinds i)) (told.1 h),
+    )
+
+-- a mode is no role
+pub mode_edited : (kinds : List (ℕ × Kind)) (iface : ℕ) (mode : Mode)
+    → roles_of (edited (edit.Mode iface mode) kinds) ≡ roles_of kinds
+mode_edited [] iface mode = refl
+mode_edited (k ∷ kinds) iface mode =
+    let more = mode_edited kinds iface mode in
+    elim (cases_Bool (k.0 == iface)) [
+      | inl e ↦ rw e (ap (λ l. (k.0, k.1.role) ∷ l) more)
+      | inr e ↦ rw e (ap (λ l. (k.0, k.1.role) ∷ l) more)
+    ]
+
+-- another role leaves the interfaces as they are
+pub role_kept : (roles : Roles) (iface : ℕ) (role : Role) (i : ℕ)
+    → IsConfigured (with_role iface role roles) i ↔ IsConfigured roles i
+role_kept [] iface role i = (λ h. h, λ h. h)
+role_kept (r ∷ roles) iface role i =
+    let more = role_kept roles iface role i in
+    elim (cases_Bool (r.0 == iface)) [
+      | inl e ↦ rw e (elim (cases_Bool (r.0 == i)) [ inl here ↦ rw here (λ h. refl, λ h. refl) | inr other ↦ rw other more ])
+      | inr e ↦ rw e (elim (cases_Bool (r.0 == i)) [ inl here ↦ rw here (λ h. refl, λ h. refl) | inr other ↦ rw other more ])
     ]

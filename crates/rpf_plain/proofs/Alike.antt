@@ -9,11 +9,13 @@ use Rattle.urpf_base.specs.declared.cells.Cell.{Cell}
 use Rattle.rpf_plain.specs.declared.rows.Row.{Row}
 use Rattle.rpf_plain.specs.Cells.{IsCell}
 use Rattle.rpf_plain.specs.Rows.{AreSameRows}
-use Rattle.rpf_plain.specs.Sets.{feasible, has_as, has_origin, has_prefix, is_origin, list_a, list_a_with_pairs, origins_of, paired}
+use Rattle.rpf_plain.specs.Sets.{feasible, has_as, has_origin, has_prefix, is_origin, list_a, list_a_with_pairs}
+use Rattle.rpf_plain.specs.Sets.{origins_of, paired}
 use Rattle.rpf_plain.specs.Sets.{prefixes_of, received, rows_on, set_a, set_p, set_q, set_x, set_z, set_z_with_pairs}
 use Rattle.rpf_plain.specs.World.{Pair, Roles, World, is_customer}
 use Rattle.rpf_plain.proofs.Counted.{counted}
-use Rattle.rpf_plain.proofs.Members.{any_by, has_append, has_as_by, has_origin_by, has_prefix_by, in_union, named, picked, some_row}
+use Rattle.rpf_plain.proofs.Members.{any_by, has_append, has_as_by, has_origin_by, has_prefix_by, in_union, named}
+use Rattle.rpf_plain.proofs.Members.{picked, some_row}
 use Rattle.rpf_plain.proofs.Members.{the_row}
 use Rattle.rpf_plain.proofs.Repeats.{repeats-some}
 
@@ -106,7 +108,8 @@ module _ (a b : List Row) (within : AreIn a b) where
     in_set_z : (p : Block) → Has (set_z v) p → Has (set_z w) p
     in_set_z p h =
         (has_append (set_p w) (set_q w) p).1 (elim ((has_append (set_p v) (set_q v) p).0 h) [
-          | inl left ↦ inl (by_prefix (λ r. is_customer roles r.iface) (λ r. is_customer roles r.iface) (λ r e. e) p left)
+          | inl left ↦ inl
+              (by_prefix (λ r. is_customer roles r.iface) (λ r. is_customer roles r.iface) (λ r e. e) p left)
           | inr right ↦ inr (in_set_q p right)
         ])
 

@@ -87,7 +87,8 @@ noted old new prefix before now first kept longer =
           let is = longer other in
           record {
             ascending = λ h. subst AreAscending (sym is) (AreAscending-push old (change prefix now) h first);
-            behind = λ q all later. subst (λ l. AllBefore l q) (sym is) (AllBefore-push old (change prefix now) q all later);
+            behind = λ q all later. subst (λ l. AllBefore l q) (sym is)
+                (AllBefore-push old (change prefix now) q all later);
             each = λ p c.
                 let parts = has_append old (change prefix now ∷ []) (change p c) in (
                   λ h. elim (parts.0 (subst (λ l. Has l (change p c)) is h)) [

@@ -62,13 +62,14 @@ none_paired (pair ∷ pairs) = none_paired pairs
 -- where there are no rows all cells are empty
 pub no_rows : (roles : Roles) (pairs : List Pair) → IsTable (record { rows = []; roles = roles; pairs = pairs }) empty
 no_rows roles pairs = record {
-  cells = λ p. subst (IsCell (record { rows = []; roles = roles; pairs = pairs }) p) (sym (nothing empty p refl)) (record {
-    f = λ i. (λ h. no_member i h, λ h. absurd h);
-    a = λ i. (
-      λ h. absurd (no_member i h),
-      λ h. absurd (subst (λ ps. Has ps p) (none_paired pairs) h.1),
-    );
-    z = (λ h. absurd cc, λ h. absurd (subst (λ ps. Has ps p) (none_paired pairs) h));
-  });
+  cells = λ p. subst (IsCell (record { rows = []; roles = roles; pairs = pairs }) p)
+      (sym (nothing empty p refl)) (record {
+        f = λ i. (λ h. no_member i h, λ h. absurd h);
+        a = λ i. (
+          λ h. absurd (no_member i h),
+          λ h. absurd (subst (λ ps. Has ps p) (none_paired pairs) h.1),
+        );
+        z = (λ h. absurd cc, λ h. absurd (subst (λ ps. Has ps p) (none_paired pairs) h));
+      });
   filled = λ p there. nothing_filled empty refl p empty_cell there refl;
 }

@@ -1,6 +1,7 @@
 -- Interfaces that customers are behind.
 use Rattle.std.proofs.Common.{Option, None}
-use Rattle.std.proofs.Common.{◌≡◌, ◌↔◌, ◌≤◌, ◌<◌, ◌+◌, ◌==◌, inl, inr, ℕ, zero, suc, Bool, true, false, IsTrue, List, [], ◌∷◌}
+use Rattle.std.proofs.Common.{◌≡◌, ◌↔◌, ◌≤◌, ◌<◌, ◌+◌, ◌==◌, inl, inr, ℕ, zero, suc, Bool, true, false, IsTrue, List}
+use Rattle.std.proofs.Common.{[], ◌∷◌}
 use Rattle.std.proofs.Common.{drop, length, map, refl, sym, ap, subst, ◌∙◌, Some, arith, add-one, drop-cons, get_or}
 use Rattle.std.specs.List.{AllByRecursion}
 use Rattle.std.proofs.lemmas.Bool.{cases_Bool, eqb-true, eqb-false}
@@ -88,7 +89,8 @@ roles_edited iface role (k ∷ kinds) =
     ]
 
 -- the role of an interface is that of its kind
-role_of_kind : (kinds : List (ℕ × Kind)) (i : ℕ) → role_in (roles_of kinds) i ≡ option_map (λ k. k.role) (kind_in kinds i)
+role_of_kind : (kinds : List (ℕ × Kind)) (i : ℕ)
+    → role_in (roles_of kinds) i ≡ option_map (λ k. k.role) (kind_in kinds i)
 role_of_kind [] i = refl
 role_of_kind (k ∷ kinds) i =
     let more = role_of_kind kinds i in
@@ -100,8 +102,7 @@ some_mapped f (Some a) = (λ h. refl, λ h. refl)
 
 pub configured : (kinds : List (ℕ × Kind)) (i : ℕ) → IsConfigured (roles_of kinds) i ↔ IsSome (kind_in kinds i)
 configured kinds i =
-    let told = some_mapped (λ (k : Kind). k.role) (kind_in kinds i) in
-    (
+    let told = some_mapped (λ (k : Kind). k.role) (kind_in kinds i) in (
       λ h. told.0 (subst IsSome (role_of_kind kinds i) h),
       λ h. subst IsSome (sym (role_of_kind kinds i)) (told.1 h),
     )
@@ -124,6 +125,8 @@ role_kept [] iface role i = (λ h. h, λ h. h)
 role_kept (r ∷ roles) iface role i =
     let more = role_kept roles iface role i in
     elim (cases_Bool (r.0 == iface)) [
-      | inl e ↦ rw e (elim (cases_Bool (r.0 == i)) [ inl here ↦ rw here (λ h. refl, λ h. refl) | inr other ↦ rw other more ])
-      | inr e ↦ rw e (elim (cases_Bool (r.0 == i)) [ inl here ↦ rw here (λ h. refl, λ h. refl) | inr other ↦ rw other more ])
+      | inl e ↦ rw e
+          (elim (cases_Bool (r.0 == i)) [ inl here ↦ rw here (λ h. refl, λ h. refl) | inr other ↦ rw other more ])
+      | inr e ↦ rw e
+          (elim (cases_Bool (r.0 == i)) [ inl here ↦ rw here (λ h. refl, λ h. refl) | inr other ↦ rw other more ])
     ]

@@ -49,11 +49,13 @@ pub repeats-all_rows : (es : List (Row × ℕ)) (q : Row) → IsStrictlySortedBy
     → repeats (all_rows es) q ≡ how_often (lookup (at q) es)
 repeats-all_rows [] q sorted = refl
 repeats-all_rows (e ∷ es) q sorted =
-    let parts = repeats-append (again e.1 e.0) (all_rows es) q ∙ ap (λ n. n + repeats (all_rows es) q) (repeats-again e.1 e.0 q) in
+    let parts =
+    repeats-append (again e.1 e.0) (all_rows es) q ∙ ap (λ n. n + repeats (all_rows es) q) (repeats-again e.1 e.0 q) in
     let later = repeats-all_rows es q (sorted_tail row_order e.0 (keys_of es) sorted) in
     elim (cases_Bool (is_eq (row_order e.0 q))) [
       | inl same ↦
-          let none : lookup (at q) es ≡ None = none_later q e.0 es (sorted_head row_order e.0 (keys_of es) sorted) same in
+          let none : lookup (at q) es ≡ None =
+          none_later q e.0 es (sorted_head row_order e.0 (keys_of es) sorted) same in
           let rest : repeats (all_rows es) q ≡ 0 = later ∙ ap how_often none in
           let sum : repeats (all_rows (e ∷ es)) q ≡ e.1 + 1 + repeats (all_rows es) q = rw same at parts in
           rw (flip q e.0, same) (omega arith)
@@ -84,7 +86,8 @@ AreSorted R es = IsStrictlySortedBy R (keys_of es)
 pub in_order : (es : List (Row × ℕ)) → AreSorted own_order es → AreInOrder es
 in_order es sorted = subst (λ R. IsStrictlySortedBy R (keys_of es)) order_agrees sorted
 
-repeats-set : (row q : Row) (value : Option ℕ) (es fs : List (Row × ℕ)) → AreSorted row_order es → AreSorted row_order fs
+repeats-set : (row q : Row) (value : Option ℕ) (es fs : List (Row × ℕ)) → AreSorted row_order es
+    → AreSorted row_order fs
     → SetAt row_order row value es fs
     → repeats (all_rows fs) q ≡ cond (is_eq (row_order row q)) (how_often value) (repeats (all_rows es) q)
 repeats-set row q value es fs old new is =

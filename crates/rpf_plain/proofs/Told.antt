@@ -1,5 +1,6 @@
 -- What walks over the rows find is what the source sets have.
-use Rattle.std.proofs.Common.{◌≡◌, ◌⊎◌, ◌↔◌, inl, inr, ℕ, zero, suc, Bool, true, IsTrue, ◌==◌, ◌&&◌, not, List, [], ◌∷◌, ◌++◌}
+use Rattle.std.proofs.Common.{◌≡◌, ◌⊎◌, ◌↔◌, inl, inr, ℕ, zero, suc, Bool, true, IsTrue, ◌==◌, ◌&&◌, not, List, []}
+use Rattle.std.proofs.Common.{◌∷◌, ◌++◌}
 use Rattle.std.proofs.Common.{Some, refl, sym, ap, subst}
 use Rattle.std.proofs.lemmas.Bool.{cases_Bool, and_from, and_parts, eqb-true, eq-eqb}
 use Rattle.urpf_base.specs.Address.{Block}
@@ -10,12 +11,15 @@ use Rattle.prefix_map.specs.Mapped.{Mapped}
 use Rattle.rpf_plain.specs.declared.rows.Row.{Row}
 use Rattle.rpf_plain.specs.Cells.{IsCell, IsTable, cell_at}
 use Rattle.rpf_plain.specs.Kept.{again, all_rows, each_row}
-use Rattle.rpf_plain.specs.Sets.{feasible, has_origin, has_prefix, is_origin, list_a, list_a_with_pairs, received, set_a, set_p}
+use Rattle.rpf_plain.specs.Sets.{feasible, has_origin, has_prefix, is_origin, list_a, list_a_with_pairs, received}
+use Rattle.rpf_plain.specs.Sets.{set_a, set_p}
 use Rattle.rpf_plain.specs.Sets.{set_q, set_x, set_z, set_z_with_pairs}
-use Rattle.rpf_plain.specs.Walks.{AreCells, Hears, InListA, InSetA, InSetZ, IsAdmitted, IsCustomers, IsForSetZ, IsHeard, IsListed}
+use Rattle.rpf_plain.specs.Walks.{AreCells, Hears, InListA, InSetA, InSetZ, IsAdmitted, IsCustomers, IsForSetZ}
+use Rattle.rpf_plain.specs.Walks.{IsHeard, IsListed}
 use Rattle.rpf_plain.specs.Walks.{IsReached, Reaches, SomeRow}
 use Rattle.rpf_plain.specs.World.{Roles, World, is_customer}
-use Rattle.rpf_plain.proofs.Members.{any_by, has_append, has_origin_by, has_prefix_by, in_union, is_origin_by, named, picked}
+use Rattle.rpf_plain.proofs.Members.{any_by, has_append, has_origin_by, has_prefix_by, in_union, is_origin_by, named}
+use Rattle.rpf_plain.proofs.Members.{picked}
 use Rattle.rpf_plain.proofs.Members.{some_by, some_row, the_row}
 use Rattle.rpf_plain.proofs.Turns.{both}
 
@@ -118,7 +122,8 @@ module _ (es : List (Row × ℕ)) (roles : Roles) where
           (λ r here. (here.0, ((are i).1 h.0, (a, here.1, (in_a a).0 of_a, (is_received i a).0 is)))) (each_row es)
           ((in_x a p).0 there),
       λ h.
-          let (r, has, (here, (mine, (a, is, of_a, reached)))) = the_row (IsListed (each_row es) customers i p) (each_row es) h in (
+          let (r, has, (here, (mine, (a, is, of_a, reached)))) =
+          the_row (IsListed (each_row es) customers i p) (each_row es) h in (
             (are i).0 mine,
             (in_list i p).1 (
               a,

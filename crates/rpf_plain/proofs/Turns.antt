@@ -1,5 +1,6 @@
 -- A walk over rows: what was found in the rows so far, and what is found in those to come, is all.
-use Rattle.std.proofs.Common.{◌≡◌, ◌≢◌, ◌⊎◌, ◌↔◌, inl, inr, ℕ, List, [], ◌∷◌, refl, sym, subst, arith, IsTrue, true, false}
+use Rattle.std.proofs.Common.{◌≡◌, ◌≢◌, ◌⊎◌, ◌↔◌, inl, inr, ℕ, List, [], ◌∷◌, refl, sym, subst, arith, IsTrue, true}
+use Rattle.std.proofs.Common.{false}
 use Rattle.std.proofs.lemmas.Bool.{cases_eq}
 use Rattle.urpf_base.specs.Masks.{InMask}
 use Rattle.rpf_plain.specs.declared.rows.Row.{Row}

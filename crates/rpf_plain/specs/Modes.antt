@@ -1,5 +1,5 @@
--- The set that an interface is checked against, by its mode, and the verdict on a source (RFC 8704, section 3; RFC 3704,
--- section 2).
+-- The set that an interface is checked against, by its mode, and the verdict on a source (RFC 8704, section 3;
+-- RFC 3704, section 2).
 use Rattle.std.specs.Prelude.{◌≡◌, ℕ, ◌<◌, nat_lt, List, [], ◌∷◌, Option, Some, None, IsTrue}
 use Rattle.std.specs.List.{filter}
 use Rattle.urpf_base.specs.Address.{Block, Covers}

@@ -1,6 +1,7 @@
 -- The source sets of a router: feasible paths and loose mode (RFC 3704, section 2), and Algorithms A and B (RFC 8704,
 -- section 3). Each is a list of prefixes, in which one may stand more than once.
-use Rattle.std.specs.Prelude.{ℕ, ◌==◌, ◌&&◌, not, Bool, false, List, [], ◌∷◌, ◌++◌, map, filter_map, Option, Some, None}
+use Rattle.std.specs.Prelude.{ℕ, ◌==◌, ◌&&◌, not, Bool, false, List, [], ◌∷◌, ◌++◌, map, filter_map, Option, Some}
+use Rattle.std.specs.Prelude.{None}
 use Rattle.std.specs.List.{filter, list_any}
 use Rattle.std.specs.Ordering.{is_eq}
 use Rattle.urpf_base.specs.Address.{Block}

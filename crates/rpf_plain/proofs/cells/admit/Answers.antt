@@ -17,7 +17,8 @@ returns-clause-a c p i =
     let old = c.args.cells.now in
     let next = c.widened-next.result in
     let more : InMask next.a i ↔ (InMask (cell_at old c.args.row.prefix).a i ⊎ Admits c.args.reach c.args.customers i) =
-    subst (λ (x : Cell). InMask next.a i ↔ (InMask x.a i ⊎ Admits c.args.reach c.args.customers i)) c.cell_of-cell.ensures
+    subst (λ (x : Cell). InMask next.a i ↔ (InMask x.a i ⊎ Admits c.args.reach c.args.customers i))
+    c.cell_of-cell.ensures
     (c.widened-next.ensures.a i) in
     either_at old c.set.new.self c.args.row.prefix next c.in-Ok.ensures.ok (λ x. InMask x.a i)
     (Admits c.args.reach c.args.customers i) more p

@@ -15,7 +15,8 @@ invariant-loop-row l =
           → (InMask (cell_at l.cells p).a i ⊎ SomeRow (IsListed all l.customers i p) l.row-iterator)
           ↔ InListA all l.customers i p;
       z : (p : Block)
-          → (IsTrue (cell_at l.cells p).z ⊎ SomeRow (IsForSetZ all l.customers p) l.row-iterator) ↔ InSetZ all l.customers p;
+          → (IsTrue (cell_at l.cells p).z ⊎ SomeRow (IsForSetZ all l.customers p) l.row-iterator)
+          ↔ InSetZ all l.customers p;
       filled : IsFilled l.cells;
       rest : (p : Block) (i : ℕ) → Hears l.row-iterator i p → Hears all i p;
     }

@@ -21,8 +21,10 @@ returns-clause-kept c =
     let old = c.args.cells.now in
     let new = c.set.new.self in
     record {
-      a = kept_at old new c.args.row.prefix _ c.in-Ok.ensures.ok (λ x. x.a) (ap (λ (x : Cell). x.a) c.cell_of-cell.ensures);
-      z = kept_at old new c.args.row.prefix _ c.in-Ok.ensures.ok (λ x. x.z) (ap (λ (x : Cell). x.z) c.cell_of-cell.ensures);
+      a = kept_at old new c.args.row.prefix _ c.in-Ok.ensures.ok (λ x. x.a)
+          (ap (λ (x : Cell). x.a) c.cell_of-cell.ensures);
+      z = kept_at old new c.args.row.prefix _ c.in-Ok.ensures.ok (λ x. x.z)
+          (ap (λ (x : Cell). x.z) c.cell_of-cell.ensures);
     }
 
 pub returns-clause-filled : goal.returns-clause-filled

@@ -42,7 +42,8 @@ loop-prefix-preserved c =
     let first : AllBefore c.loop-prefix.changes prefix =
     c.loop-prefix.invariant.behind prefix
     (subst (λ (es : Pairs). Has (map (λ e. e.0) es) prefix) (sym steps) (inl refl)) in
-    let are = noted c.loop-prefix.changes c.note.new.changes prefix c.or_empty.result c.or_empty-in-loop-prefix.result first
+    let are = noted c.loop-prefix.changes c.note.new.changes prefix c.or_empty.result
+    c.or_empty-in-loop-prefix.result first
     told.same told.another in
     record {
       ascending = are.ascending c.loop-prefix.invariant.ascending;
@@ -55,7 +56,8 @@ loop-prefix-preserved c =
           (c.loop-prefix.invariant.each p x))
           (subst
           (λ (old : Cell). Has c.note.new.changes (change p x)
-          ↔ (Has c.loop-prefix.changes (change p x) ⊎ ((prefix ≡ p) × (cell_or_empty c.in-Some.new ≡ x) × ¬ (old ≡ x)))) c.or_empty.ensures
+          ↔ (Has c.loop-prefix.changes (change p x) ⊎ ((prefix ≡ p) × (cell_or_empty c.in-Some.new ≡ x) × ¬ (old ≡ x))))
+          c.or_empty.ensures
           (subst
           (λ (new : Cell). Has c.note.new.changes (change p x)
           ↔ (Has c.loop-prefix.changes (change p x) ⊎ ((prefix ≡ p) × (new ≡ x) × ¬ (c.or_empty.result ≡ x))))

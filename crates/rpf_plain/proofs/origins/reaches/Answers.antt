@@ -12,12 +12,15 @@ loop-row-init c =
     let start = c.into_iter-row-iterator.ensures.into_iter_gives ∙ c.rows-row-items.ensures in
     record {
       ifaces = λ a i. subst
-          (λ rows. (InMask (reach_at origins a).ifaces i ⊎ SomeRow (IsReached all a i) rows) ↔ Reaches all a i) (sym start)
+          (λ rows. (InMask (reach_at origins a).ifaces i ⊎ SomeRow (IsReached all a i) rows) ↔ Reaches all a i)
+          (sym start)
           (begun (λ h. no_member i (subst (λ m. InMask m i) (ap (λ r. r.ifaces) (c.new-origins.ensures a)) h)));
       in_set_a = λ a. subst
-          (λ rows. (IsTrue (reach_at origins a).in_set_a ⊎ InSetA rows c.args.customers a) ↔ InSetA all c.args.customers a)
+          (λ rows. (IsTrue (reach_at origins a).in_set_a ⊎ InSetA rows c.args.customers a)
+          ↔ InSetA all c.args.customers a)
           (sym start)
-          (begun (λ h. let no : (reach_at origins a).in_set_a ≡ false = ap (λ r. r.in_set_a) (c.new-origins.ensures a) in cc));
+          (begun
+          (λ h. let no : (reach_at origins a).in_set_a ≡ false = ap (λ r. r.in_set_a) (c.new-origins.ensures a) in cc));
     }
 
 pub loop-row-preserved : goal.loop-row-preserved
@@ -33,7 +36,8 @@ loop-row-preserved c =
           (either_by (told.ifaces a i)
           (subst (λ x. InMask x.f i ↔ Hears all i row.prefix) (sym c.cell_of-cell.ensures) (c.requires row.prefix i)));
       in_set_a = λ a. moved
-          (subst (λ rows. (IsTrue (reach_at old a).in_set_a ⊎ InSetA rows c.args.customers a) ↔ InSetA all c.args.customers a)
+          (subst
+          (λ rows. (IsTrue (reach_at old a).in_set_a ⊎ InSetA rows c.args.customers a) ↔ InSetA all c.args.customers a)
           c.in-Some.ensures.steps (c.loop-row.invariant.in_set_a a))
           (either_by (told.in_set_a a) c.has.ensures.value);
     }

@@ -26,7 +26,8 @@ returns-then-more-eq0 c =
     subst (λ es. AreSameRows (all_rows es) (row ∷ all_rows new)) c.self.view_is
     (takes row None old new c.self.invariant (in_order new c.remove.ensures.ordered) c.remove.ensures.updates.0
     (once (found own_order old row)
-    (ap (λ o. unwrap_or o 0) (sym (c.copied.ensures ∙ c.get.ensures.value)) ∙ sym c.unwrap_or-more.ensures ∙ c.if-more-eq0.true)
+    (ap (λ o. unwrap_or o 0) (sym (c.copied.ensures ∙ c.get.ensures.value)) ∙ sym c.unwrap_or-more.ensures
+    ∙ c.if-more-eq0.true)
     (there row old c.self.invariant has)))
 
 pub returns : goal.returns

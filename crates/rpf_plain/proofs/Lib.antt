@@ -1,0 +1,13 @@
+pub mod Alike
+pub mod Changed
+pub mod Counted
+pub mod Drained
+pub mod Listed
+pub mod Members
+pub mod Modal
+pub mod Orders
+pub mod Reached
+pub mod Repeats
+pub mod Tables
+pub mod Told
+pub mod Turns

@@ -1,0 +1,64 @@
+-- Tables of cells, once a prefix was given another one.
+use Rattle.std.proofs.Common.{◌≡◌, ◌⊎◌, ◌↔◌, inl, inr, sym, ap, subst, ◌∙◌, Some, None}
+use Rattle.std.specs.FinMap.{empty, get, insert}
+use Rattle.urpf_base.specs.Address.{Block}
+use Rattle.urpf_base.specs.declared.cells.Cell.{Cell}
+use Rattle.prefix_map.specs.Mapped.{Mapped}
+use Rattle.prefix_map.proofs.Held.{none_held, set_here, set_others}
+use Rattle.prefix_map.proofs.Order.{same_or_not}
+use Rattle.rpf_plain.specs.Cells.{cell_at, cell_or_empty, empty_cell}
+use Rattle.rpf_plain.specs.Walks.{IsFilled}
+
+-- an empty table has the empty cell everywhere
+pub nothing : (m : Mapped Cell) (p : Block) → m ≡ empty → cell_at m p ≡ empty_cell
+nothing m p is = ap cell_or_empty (none_held m p is)
+
+pub nothing_filled : (m : Mapped Cell) → m ≡ empty → IsFilled m
+nothing_filled m is p c there = let none : get m p ≡ None = none_held m p is in absurd cc
+
+module _ (m n : Mapped Cell) (p : Block) (c : Cell) (is : n ≡ insert m p c) where
+  here : (q : Block) → p ≡ q → cell_at n q ≡ c
+  here q e = subst (λ z. cell_at n z ≡ c) e (ap cell_or_empty (set_here m n p c is))
+
+  others : (q : Block) → ¬ (p ≡ q) → cell_at n q ≡ cell_at m q
+  others q other = ap cell_or_empty (set_others m n p c is q (λ e. other (sym e)))
+
+  -- what the new cell has as the old one had it is as it was everywhere
+  pub kept_at : {X : Type 0} (g : Cell → X) → g c ≡ g (cell_at m p) → (q : Block) → g (cell_at n q) ≡ g (cell_at m q)
+  kept_at g same q =
+      elim (same_or_not p q) [
+        | inl e ↦ ap g (here q e) ∙ subst (λ z. g c ≡ g (cell_at m z)) e same
+        | inr other ↦ ap g (others q other)
+      ]
+
+  -- what the new cell has more is more at that prefix
+  pub either_at : (P : Cell → Type 0) (H : Type 0) → (P c ↔ (P (cell_at m p) ⊎ H)) → (q : Block)
+      → (P (cell_at n q) ↔ (P (cell_at m q) ⊎ ((p ≡ q) × H)))
+  either_at P H more q =
+      elim (same_or_not p q) [
+        | inl e ↦ (
+          λ h. elim (more.0 (subst P (here q e) h)) [
+            | inl a ↦ inl (subst (λ z. P (cell_at m z)) e a)
+            | inr b ↦ inr (e, b)
+          ],
+          λ h. subst P (sym (here q e)) (elim h [
+            | inl a ↦ more.1 (inl (subst (λ z. P (cell_at m z)) (sym e) a))
+            | inr b ↦ more.1 (inr b.1)
+          ]),
+        )
+        | inr other ↦ (
+          λ h. inl (subst P (others q other) h),
+          λ h. elim h [ inl a ↦ subst P (sym (others q other)) a | inr b ↦ absurd (other b.0) ],
+        )
+      ]
+
+  -- a table without empty sets of interfaces is still one
+  pub filled_at : ¬ (c.f ≡ 0) → IsFilled m → IsFilled n
+  filled_at some filled q d there =
+      elim (same_or_not p q) [
+        | inl e ↦
+            let new : get n q ≡ Some c = subst (λ z. get n z ≡ Some c) e (set_here m n p c is) in
+            let same : c ≡ d = cc in
+            λ none. some (ap (λ x. x.f) same ∙ none)
+        | inr other ↦ filled q d (sym (set_others m n p c is q (λ e. other (sym e))) ∙ there)
+      ]

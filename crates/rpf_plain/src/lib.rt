@@ -1,0 +1,23 @@
+//! The source sets of a router, computed from the routes of all its sessions: feasible paths and
+//! loose mode (RFC 3704, section 2), and enhanced feasible paths by Algorithms A and B (RFC 8704,
+//! section 3).
+//!
+//! Rows go in and out, roles change, and a drain answers for which prefixes the sets changed.
+#![tactic(auto)]
+
+mod cells;
+mod customers;
+mod differences;
+mod engine;
+mod laws;
+mod one_cell;
+mod origins;
+mod plain;
+mod row_map;
+mod rows;
+mod table;
+
+pub use engine::SetEngine;
+pub use laws::{cell_laws, role_laws, row_laws, table_laws};
+pub use plain::PlainEngine;
+pub use rows::Row;

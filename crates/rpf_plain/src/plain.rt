@@ -1,0 +1,94 @@
+//! The engine that keeps rows in an ordered map, and computes the sets anew in each drain.
+ghost use Rattle.std.specs.Prelude.{◌≡◌, IfOk};
+ghost use Rattle.rpf_plain.specs.Engine.{new_engine};
+ghost use Rattle.rpf_plain.specs.World.{roles_of};
+
+use crate::differences::differences;
+use crate::engine::SetEngine;
+use crate::one_cell::cell_now;
+use crate::row_map::RowMap;
+use crate::rows::Row;
+use crate::table::table_of;
+use prefix_map::PrefixMap;
+use router_config::{Edit, Kinds};
+use std::alloc::Global;
+use std::marker::Model;
+use urpf_base::{Cell, Changes, IfaceId, Origin, OutOfMemory, Prefix, Role};
+
+/// An engine of the source sets that computes them anew from its rows.
+#[derive(Drop)]
+pub struct PlainEngine {
+    alloc: Global,
+    rows: RowMap,
+    kinds: Kinds,
+    base: PrefixMap<Cell>,
+}
+
+impl Model for PlainEngine {
+    ghost use Rattle.std.specs.Prelude.{[]};
+    ghost use Rattle.rpf_plain.specs.Engine.{EngineState};
+    ghost use Rattle.rpf_plain.specs.Kept.{all_rows, engine_code};
+    ghost use Rattle.rpf_plain.specs.World.{world_for};
+
+    ghost Value = { EngineState };
+
+    ghost coded = { engine_code };
+
+    ghost view = { λ e. record { world = world_for e.kinds (all_rows e.rows) []; base = e.base } };
+}
+
+impl PlainEngine {
+    /// An engine of these interfaces without rows and pairs.
+    pub fn new(alloc: Global, roles: &Kinds) -> Result<PlainEngine, OutOfMemory>
+        ensures { IfOk result (λ engine. engine ≡ new_engine (roles_of roles.now)) }
+    {
+        let kinds = roles.copied()?;
+        Ok(PlainEngine {
+            alloc,
+            rows: RowMap::new(alloc),
+            kinds,
+            base: PrefixMap::new(alloc),
+        })
+    }
+}
+
+impl SetEngine for PlainEngine {
+    ghost state = { λ e. e };
+
+    fn add_row(
+        &mut self,
+        iface: IfaceId,
+        prefix: Prefix,
+        origin: Origin,
+    ) -> Result<(), OutOfMemory> {
+        self.rows.add(Row {
+            prefix,
+            iface,
+            origin,
+        })
+    }
+
+    fn remove_row(&mut self, iface: IfaceId, prefix: &Prefix, origin: Origin) {
+        self.rows.take(&Row {
+            prefix: *prefix,
+            iface,
+            origin,
+        });
+    }
+
+    fn set_role(&mut self, iface: IfaceId, role: Role) -> Result<(), OutOfMemory> {
+        self.kinds.apply(&Edit::Role(iface, role));
+        Ok(())
+    }
+
+    fn cell(&self, prefix: &Prefix) -> Cell {
+        cell_now(&self.rows, &self.kinds, prefix)
+    }
+
+    fn drain_changes(&mut self) -> Result<Changes, OutOfMemory> {
+        let cells = table_of(self.alloc, &self.rows, &self.kinds)?;
+        let changes = differences(self.alloc, &self.base, &cells)?;
+        self.base = cells;
+        Ok(changes)
+    }
+}

@@ -1,0 +1,9 @@
+//! Tests of rpf_plain through its public calls: worked rows with their cells, drawn rows beside a
+//! slow program, and that calls succeed where memory is ample.
+//!
+//! Nothing but tests is here. A crate that has tests of its own is proved twice, with them and
+//! without.
+#![tactic(auto)]
+
+#[cfg(test)]
+mod tests;

@@ -1,0 +1,7 @@
+//! What no clause says: the cells of worked rows, and of drawn rows beside a slow program, and that
+//! calls succeed where memory is ample.
+mod drawn;
+mod fed;
+mod refused;
+mod slow;
+mod worked;

@@ -1,7 +1,6 @@
 -- An engine beside the plain list of its rows.
 use Rattle.std.proofs.Common.{◌≡◌, ◌+◌, ◌<◌, ◌≤◌, ◌^◌, List, [], ◌∷◌, ◌++◌, length, arith, sym, ap, ◌∙◌, refl}
-use Rattle.std.proofs.Common.{true, false, Option, Some, None}
-use Rattle.std.specs.Option.{IsSome, is_none}
+use Rattle.std.proofs.Common.{true}
 use Rattle.std.specs.Ordering.{is_eq}
 use Rattle.urpf_base.specs.Lists.{Has}
 use Rattle.rpf_plain.specs.Rows.{AreSameRows, repeats, row_order}
@@ -44,8 +43,3 @@ last_there old listed less row same is =
 -- few rows are fewer than an engine may hold
 pub few : (old listed : List Row) → AreSameRows old listed → length listed < 1000 → length old < 2 ^ 40
 few old listed same less = let equal = same_length old listed same in omega arith
-
--- what is not none is some
-pub is_some : {X : Type 0} (o : Option X) → is_none o ≡ false → IsSome o
-is_some None e = cc
-is_some (Some x) e = refl

@@ -1,16 +1,15 @@
-use Rattle.std.proofs.Common.{◌≡◌, ap, sym, subst, ◌∙◌}
+use Rattle.std.proofs.Common.{◌≡◌, ap, not, sym, subst, ◌∙◌}
 use Rattle.std.specs.Option.{IsSome}
 use Rattle.rpf_plain.specs.Rows.{repeats}
 use Rattle.rpf_plain.specs.World.{IsConfigured, roles_of, with_role}
 use Rattle.rpf_plain.proofs.Listed.{configured, roles_edited}
-use Rattle.set_tests.proofs.Plain.{is_some}
 use Rattle.set_tests.proofs.tests.fed.Fed.set_role.Goals as goal
 
 pub set_role-requires : goal.set_role-requires
 set_role-requires c =
     subst (λ roles. IsConfigured roles c.args.iface) (sym c.args.self.now.roles)
     ((configured c.args.self.now.kinds c.args.iface).1
-    (subst IsSome c.kind.ensures (is_some c.kind.result (sym c.is_none.ensures ∙ c.if-is_none.false))))
+    (subst IsSome c.kind.ensures (c.is_none.ensures ∙ ap not c.if-is_none.false)))
 
 pub invariant_of-self-2 : goal.invariant_of-self-2
 invariant_of-self-2 c = record {

@@ -10,7 +10,7 @@ use std::process::Abort;
 use urpf_base::{Addr, Cell, IfaceId, Mask, Prefix, Role};
 
 /// How many lists of rows are drawn.
-const LISTS: u32 = 400;
+const LISTS: u32 = 2000;
 
 /// Numbers that are drawn, the same in each run.
 #[derive(Drop)]

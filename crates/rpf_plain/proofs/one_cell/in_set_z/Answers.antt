@@ -1,4 +1,4 @@
-use Rattle.std.proofs.Common.{◌≡◌, ◌↔◌, sym, subst, ◌∙◌, refl}
+use Rattle.std.proofs.Common.{◌↔◌, sym, subst, ◌∙◌, refl}
 use Rattle.rpf_plain.specs.declared.rows.Row.{Row}
 use Rattle.rpf_plain.specs.Kept.{each_row}
 use Rattle.rpf_plain.specs.Walks.{IsForSetZ, SomeRow}

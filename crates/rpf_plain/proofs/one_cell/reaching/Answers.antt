@@ -1,4 +1,4 @@
-use Rattle.std.proofs.Common.{◌≡◌, ◌⊎◌, ◌↔◌, subst, sym, ◌∙◌}
+use Rattle.std.proofs.Common.{◌⊎◌, ◌↔◌, subst, sym, ◌∙◌}
 use Rattle.urpf_base.specs.Masks.{InMask}
 use Rattle.rpf_plain.specs.declared.rows.Row.{Row}
 use Rattle.rpf_plain.specs.Kept.{each_row}

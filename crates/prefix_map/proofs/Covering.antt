@@ -61,17 +61,23 @@ covers_own len (V4 a) within = agree_from_cleared 32 len (cleared 32 len a) a wi
 covers_own len (V6 a) within = agree_from_cleared 128 len (cleared 128 len a) a within (cleared-cleared 128 len a)
 
 module _ {V : Type 0} where
+  -- a prefix that is there and covers the address is the one of its length
+  pub own_there : (xs : List (ShortKey × V)) (ys : List (LongKey × V)) (m : Mapped V) (addr : Addr) → AreKept xs ys
+      → seen xs ys ≡ m → FitsFamily addr → (p : Block) → Has (keys m) p → IsOwn addr p
+  own_there xs ys m addr kept view small p has covers =
+      let stored : Has (map (λ e. e.0) (joined short_block long_block xs ys)) p = subst (λ l. Has (map (λ e. e.0) l) p)
+      (ap entries (sym view) ∙ entries-seen xs ys kept) has in
+      has_joined (IsOwn addr) (short_own addr small) (long_own addr small) xs ys p stored covers
+
   -- where no prefix of any length is there, none that is there covers the address
   pub none_cover : (xs : List (ShortKey × V)) (ys : List (LongKey × V)) (m : Mapped V) (addr : Addr) → AreKept xs ys
       → seen xs ys ≡ m → FitsFamily addr
       → ((k : ℕ) → k ≤ width_of addr → get m (block_of k addr) ≡ None) → (p : Block) → Has (keys m) p → Covers p addr
       → ⊥
   none_cover xs ys m addr kept view small none p has covers =
-      let stored : Has (map (λ e. e.0) (joined short_block long_block xs ys)) p = subst (λ l. Has (map (λ e. e.0) l) p)
-      (ap entries (sym view) ∙ entries-seen xs ys kept) has in
       let own : (p.len ≤ width_of addr)
       × (p ≡ block_of p.len addr) =
-      has_joined (IsOwn addr) (short_own addr small) (long_own addr small) xs ys p stored covers in
+      own_there xs ys m addr kept view small p has covers in
       let there : IsSome (get m p) = (has_held m p).0 has in
       let gone : get m p ≡ None = ap (get m) own.1 ∙ none p.len own.0 in
       never (get m p) there gone

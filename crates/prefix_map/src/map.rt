@@ -1,7 +1,7 @@
 //! The map: pairs go in and come out by their prefix, and a walk gives them in order.
 ghost use Rattle.std.specs.Prelude.{◌≡◌, ◌↔◌, ◌<◌, ◌≤◌, ◌+◌, ◌^◌, Some, None, IsSome, IfOk, OnOk, OnErr, IsTrue};
 ghost use Rattle.std.specs.Prelude.{length, option_copied};
-ghost use Rattle.urpf_base.specs.Address.{Block, Covers, width_of};
+ghost use Rattle.urpf_base.specs.Address.{Block, Covers, block_of, width_of};
 ghost use Rattle.urpf_base.specs.Lists.{Has};
 ghost use Rattle.std.specs.FinMap as map;
 ghost use Rattle.prefix_map.specs.Keys.{FitsFamily};
@@ -150,6 +150,16 @@ impl<V: Copy> PrefixMap<V> {
             }
         }
         false
+    }
+
+    /// That a prefix which is there and covers the address is the one of its length that does. It does
+    /// nothing.
+    pub fn one_covers_of_each_length(&self, addr: &Addr)
+        ensures { (p : Block) → IsSome (map.get self.now p) → Covers p addr.now
+            → (p.len ≤ width_of addr.now) × (p ≡ block_of p.len addr.now) }
+    {
+        let _ = &self.short;
+        let _ = bits_of(*addr);
     }
 
     /// The value of the prefix, in one step.

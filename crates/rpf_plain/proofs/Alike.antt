@@ -1,5 +1,5 @@
 -- The sets depend on which rows there are, and not on their order or on how often they are there.
-use Rattle.std.proofs.Common.{◌≡◌, inl, inr, ℕ, Bool, true, ◌==◌, ◌&&◌, not, List, [], ◌∷◌, Some, sym}
+use Rattle.std.proofs.Common.{◌≡◌, ◌↔◌, inl, inr, ℕ, Bool, true, ◌==◌, ◌&&◌, not, List, [], ◌∷◌, Some, sym}
 use Rattle.std.proofs.Common.{subst, ◌<◌}
 use Rattle.std.specs.List.{filter}
 use Rattle.std.proofs.lemmas.Bool.{and_from, and_parts, cases_Bool}
@@ -19,11 +19,11 @@ use Rattle.rpf_plain.proofs.Members.{picked, some_row}
 use Rattle.rpf_plain.proofs.Members.{the_row}
 use Rattle.rpf_plain.proofs.Repeats.{repeats-some}
 
-abbrev world : Roles → List Pair → List Row → World
+abbrev pub world : Roles → List Pair → List Row → World
 world roles pairs rows = record { rows = rows; roles = roles; pairs = pairs }
 
 -- the rows of the one list stand in the other
-abbrev AreIn : List Row → List Row → Type 0
+abbrev pub AreIn : List Row → List Row → Type 0
 AreIn a b = (r : Row) → Has a r → Has b r
 
 -- the pairs that pass a test, where another test passes all that it does
@@ -62,7 +62,7 @@ module _ (a b : List Row) (within : AreIn a b) where
     abbrev w : World
     w = world roles pairs b
 
-    in_feasible : (i : ℕ) (p : Block) → Has (feasible v i) p → Has (feasible w i) p
+    pub in_feasible : (i : ℕ) (p : Block) → Has (feasible v i) p → Has (feasible w i) p
     in_feasible i p = by_prefix (λ r. r.iface == i) (λ r. r.iface == i) (λ r h. h) p
 
     in_set_a : (n : ℕ) → Has (set_a v) n → Has (set_a w) n
@@ -121,30 +121,33 @@ module _ (a b : List Row) (within : AreIn a b) where
           | inr right ↦ inr (in_paired pairs (set_a v) (set_a w) in_set_a p right)
         ])
 
+-- a cell of the one world is one of the other
+same_cell : (a b : List Row) (roles : Roles) (pairs : List Pair) → AreIn a b → AreIn b a → (p : Block) (c : Cell)
+    → IsCell (world roles pairs a) p c → IsCell (world roles pairs b) p c
+same_cell a b roles pairs to from p c is = record {
+  f = λ i. (
+    λ h. in_feasible a b to roles pairs i p ((is.f i).0 h),
+    λ h. (is.f i).1 (in_feasible b a from roles pairs i p h),
+  );
+  a = λ i. (
+    λ h. let told = (is.a i).0 h in (told.0, in_list a b to roles pairs i p told.1),
+    λ h. (is.a i).1 (h.0, in_list b a from roles pairs i p h.1),
+  );
+  z = (λ h. in_z a b to roles pairs p (is.z.0 h), λ h. is.z.1 (in_z b a from roles pairs p h));
+}
+
+-- the same at worlds of one kind
+pub same_members : (v w : World) → ((row : Row) → Has v.rows row ↔ Has w.rows row) → v.roles ≡ w.roles
+    → v.pairs ≡ w.pairs → (p : Block) (c : Cell) → IsCell v p c → IsCell w p c
+same_members v w same roles pairs p c is =
+    same_cell v.rows w.rows w.roles w.pairs (λ r. (same r).0) (λ r. (same r).1) p c
+    (subst (λ (x : World). IsCell x p c) (λ i. record { rows = v.rows; roles = roles i; pairs = pairs i }) is)
+
 same_in : (a b : List Row) → AreSameRows a b → AreIn a b
 same_in a b same r h = counted b r (subst (λ n. 0 < n) (same r) (repeats-some a r h))
 
--- a cell of the one world is one of the other
-pub same_cell : (a b : List Row) (roles : Roles) (pairs : List Pair) → AreSameRows a b → (p : Block) (c : Cell)
-    → IsCell (world roles pairs a) p c → IsCell (world roles pairs b) p c
-same_cell a b roles pairs same p c is =
-    let to = same_in a b same in
-    let from = same_in b a (λ r. sym (same r)) in
-    record {
-      f = λ i. (
-        λ h. in_feasible a b to roles pairs i p ((is.f i).0 h),
-        λ h. (is.f i).1 (in_feasible b a from roles pairs i p h),
-      );
-      a = λ i. (
-        λ h. let told = (is.a i).0 h in (told.0, in_list a b to roles pairs i p told.1),
-        λ h. (is.a i).1 (h.0, in_list b a from roles pairs i p h.1),
-      );
-      z = (λ h. in_z a b to roles pairs p (is.z.0 h), λ h. is.z.1 (in_z b a from roles pairs p h));
-    }
-
--- the same at worlds of one kind
+-- and so at worlds that have each row equally often
 pub same_worlds : (v w : World) → AreSameRows v.rows w.rows → v.roles ≡ w.roles → v.pairs ≡ w.pairs → (p : Block)
     (c : Cell) → IsCell v p c → IsCell w p c
-same_worlds v w same roles pairs p c is =
-    same_cell v.rows w.rows w.roles w.pairs same p c
-    (subst (λ (x : World). IsCell x p c) (λ i. record { rows = v.rows; roles = roles i; pairs = pairs i }) is)
+same_worlds v w same =
+    same_members v w (λ r. (same_in v.rows w.rows same r, same_in w.rows v.rows (λ q. sym (same q)) r))

@@ -1,8 +1,11 @@
 pub mod Alike
 pub mod Changed
 pub mod Counted
+pub mod Differing
 pub mod Drained
 pub mod Listed
+pub mod Made
+pub mod Masks
 pub mod Members
 pub mod Modal
 pub mod Orders
@@ -11,3 +14,4 @@ pub mod Repeats
 pub mod Tables
 pub mod Told
 pub mod Turns
+pub mod Verdicts

@@ -58,6 +58,15 @@ module _ (t : Row → Bool) where
         )
       ]
 
+  -- each is a prefix of the rows
+  pub from_picked : (rows : List Row) (p : Block) → Has (prefixes_of (filter t rows)) p → Has (prefixes_of rows) p
+  from_picked [] p h = h
+  from_picked (r ∷ rows) p h =
+      elim (cases_Bool (t r)) [
+        | inl e ↦ elim (rw e at h) [ inl same ↦ inl same | inr later ↦ inr (from_picked rows p later) ]
+        | inr e ↦ inr (from_picked rows p (rw e at h))
+      ]
+
   -- the origins of the rows that pass a test
   pub named : (rows : List Row) (a : ℕ)
       → (Has (origins_of (filter t rows)) a ↔ SomeRow (λ r. (r.origin ≡ Some a) × (t r ≡ true)) rows)

@@ -16,22 +16,45 @@ use Rattle.urpf_base.proofs.Members.{masks_same}
 use Rattle.rpf_plain.specs.declared.rows.Row.{Row}
 use Rattle.rpf_plain.specs.Cells.{IsCell}
 use Rattle.rpf_plain.specs.Modes.{Says, no_defaults, set_in, set_of}
-use Rattle.rpf_plain.specs.Sets.{any, feasible, has_prefix, prefixes_of}
+use Rattle.rpf_plain.specs.Sets.{any, has_prefix, prefixes_of}
 use Rattle.rpf_plain.specs.World.{World, is_customer, is_customer_role, role_in}
-use Rattle.rpf_plain.proofs.Members.{has_prefix_by, picked, some_row, the_row}
+use Rattle.rpf_plain.proofs.Members.{from_picked, has_prefix_by, picked, some_row}
 use Rattle.rpf_plain.proofs.Turns.{no_member, not_empty}
 use Rattle.std.specs.Prelude.{◌==◌}
 use Rattle.std.proofs.lemmas.Bool.{eq-eqb}
 
-some_prefix : (rows : List Row) (p : Block) → Has (prefixes_of rows) p → (r : Row) × Has rows r × (r.prefix ≡ p)
+pub some_prefix : (rows : List Row) (p : Block) → Has (prefixes_of rows) p → (r : Row) × Has rows r × (r.prefix ≡ p)
 some_prefix [] p none = absurd none
 some_prefix (r ∷ rows) p (inl same) = (r, inl refl, sym same)
 some_prefix (r ∷ rows) p (inr later) = let (q, has, is) = some_prefix rows p later in (q, inr has, is)
 
-a_prefix : (rows : List Row) (r : Row) → Has rows r → Has (prefixes_of rows) r.prefix
+pub a_prefix : (rows : List Row) (r : Row) → Has rows r → Has (prefixes_of rows) r.prefix
 a_prefix [] r none = absurd none
 a_prefix (q ∷ rows) r (inl same) = inl (ap (λ x. x.prefix) same)
 a_prefix (q ∷ rows) r (inr later) = inr (a_prefix rows r later)
+
+-- the prefixes that are no default route
+pub in_no_defaults : (ps : List Block) (p : Block) → (Has (no_defaults ps) p ↔ (Has ps p × (0 < p.len)))
+in_no_defaults [] p = (λ h. absurd h, λ h. absurd h.0)
+in_no_defaults (q ∷ ps) p =
+    let more = in_no_defaults ps p in
+    elim (cases_Bool (nat_lt 0 q.len)) [
+      | inl e ↦ (
+        λ h. elim (rw e at h) [
+          | inl same ↦ (inl same, subst (λ (b : Block). 0 < b.len) (sym same) (ltb-true 0 q.len e))
+          | inr later ↦ let told = more.0 later in (inr told.0, told.1)
+        ],
+        λ h. rw e (elim h.0 [ inl same ↦ inl same | inr later ↦ inr (more.1 (later, h.1)) ]),
+      )
+      | inr e ↦ (
+        λ h. let told = more.0 (rw e at h) in (inr told.0, told.1),
+        λ h. rw e (elim h.0 [
+          | inl same ↦ let long : nat_lt 0 q.len ≡ true =
+              lt-ltb 0 q.len (subst (λ (b : Block). 0 < b.len) same h.1) in absurd cc
+          | inr later ↦ more.1 (later, h.1)
+        ]),
+      )
+    ]
 
 module _ (w : World) (p : Block) (c : Cell) (is : IsCell w p c) where
   -- the interface of a row of the prefix has it
@@ -41,12 +64,6 @@ module _ (w : World) (p : Block) (c : Cell) (is : IsCell w p c) where
       ((picked (λ q. q.iface == r.iface) w.rows p).1
       (some_row (λ q. (q.prefix ≡ p) × ((q.iface == r.iface) ≡ true)) w.rows r has (same, eq-eqb r.iface r.iface refl)))
 
-  from_feasible : (i : ℕ) → Has (feasible w i) p → Has (any w) p
-  from_feasible i h =
-      let (r, has, (same, on)) =
-      the_row (λ q. (q.prefix ≡ p) × ((q.iface == i) ≡ true)) w.rows ((picked (λ q. q.iface == i) w.rows p).0 h) in
-      subst (Has (any w)) same (a_prefix w.rows r has)
-
   in_any : Has (any w) p ↔ ¬ (c.f ≡ 0)
   in_any = (
     λ h. let (r, has, same) = some_prefix w.rows p h in not_empty c.f r.iface (on_one r has same),
@@ -54,33 +71,11 @@ module _ (w : World) (p : Block) (c : Cell) (is : IsCell w p c) where
       | inl there ↦ (has_prefix_by (any w) p).0 there
       | inr none ↦ absurd (some (masks_same c.f 0 (λ i. (
         λ h. absurd (let there : has_prefix (any w) p ≡ true =
-            (has_prefix_by (any w) p).1 (from_feasible i ((is.f i).0 h)) in cc),
+            (has_prefix_by (any w) p).1 (from_picked (λ q. q.iface == i) w.rows p ((is.f i).0 h)) in cc),
         λ h. absurd (no_member i h),
       ))))
     ],
   )
-
-  kept : (ps : List Block) → (Has (no_defaults ps) p ↔ (Has ps p × (0 < p.len)))
-  kept [] = (λ h. absurd h, λ h. absurd h.0)
-  kept (q ∷ ps) =
-      let more = kept ps in
-      elim (cases_Bool (nat_lt 0 q.len)) [
-        | inl e ↦ (
-          λ h. elim (rw e at h) [
-            | inl same ↦ (inl same, subst (λ (b : Block). 0 < b.len) (sym same) (ltb-true 0 q.len e))
-            | inr later ↦ let told = more.0 later in (inr told.0, told.1)
-          ],
-          λ h. rw e (elim h.0 [ inl same ↦ inl same | inr later ↦ inr (more.1 (later, h.1)) ]),
-        )
-        | inr e ↦ (
-          λ h. let told = more.0 (rw e at h) in (inr told.0, told.1),
-          λ h. rw e (elim h.0 [
-            | inl same ↦ let long : nat_lt 0 q.len ≡ true =
-                lt-ltb 0 q.len (subst (λ (b : Block). 0 < b.len) same h.1) in absurd cc
-            | inr later ↦ more.1 (later, h.1)
-          ]),
-        )
-      ]
 
   -- by a mode that the interface may have
   pub says_in : (m : Mode) (i : ℕ) → (m ≡ EfpA → IsTrue (is_customer w.roles i)) → (Has (set_in m w i) p ↔ Says m i p c)
@@ -88,7 +83,7 @@ module _ (w : World) (p : Block) (c : Cell) (is : IsCell w p c) where
   says_in Feasible i mine = ((is.f i).1, (is.f i).0)
   says_in Loose i mine = in_any
   says_in LooseNoDefault i mine =
-      let told = kept (any w) in (
+      let told = in_no_defaults (any w) p in (
         λ h. let parts = told.0 h in (parts.1, in_any.0 parts.0),
         λ h. told.1 (in_any.1 h.1, h.0),
       )

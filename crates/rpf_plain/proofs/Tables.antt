@@ -17,10 +17,10 @@ pub nothing_filled : (m : Mapped Cell) → m ≡ empty → IsFilled m
 nothing_filled m is p c there = let none : get m p ≡ None = none_held m p is in absurd cc
 
 module _ (m n : Mapped Cell) (p : Block) (c : Cell) (is : n ≡ insert m p c) where
-  here : (q : Block) → p ≡ q → cell_at n q ≡ c
+  pub here : (q : Block) → p ≡ q → cell_at n q ≡ c
   here q e = subst (λ z. cell_at n z ≡ c) e (ap cell_or_empty (set_here m n p c is))
 
-  others : (q : Block) → ¬ (p ≡ q) → cell_at n q ≡ cell_at m q
+  pub others : (q : Block) → ¬ (p ≡ q) → cell_at n q ≡ cell_at m q
   others q other = ap cell_or_empty (set_others m n p c is q (λ e. other (sym e)))
 
   -- what the new cell has as the old one had it is as it was everywhere

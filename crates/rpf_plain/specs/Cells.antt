@@ -46,3 +46,9 @@ pub record AreDifferences (old new : Mapped Cell) (changes : List CellChange) : 
   pub ascending : AreAscending changes
   pub each : (p : Block) (c : Cell)
       → Has changes (record { prefix = p; cell = c }) ↔ ((c ≡ cell_at new p) × ¬ (c ≡ cell_at old p))
+
+-- the list has each prefix whose cell differs between the two worlds, once and ascending, with its cell in the new one
+pub record IsDifference (old new : World) (changes : List CellChange) : Type 0 where
+  pub ascending : AreAscending changes
+  pub each : (p : Block) (c : Cell)
+      → Has changes (record { prefix = p; cell = c }) ↔ (IsCell new p c × ¬ IsCell old p c)

@@ -1,16 +1,20 @@
-//! What holds of all rows, cells and tables, for crates that cite it. The functions do nothing.
-ghost use Rattle.std.specs.Prelude.{◌≡◌, ◌↔◌, ◌<◌, ◌+◌, ◌++◌, ℕ, List, [], Some, IsSome, length};
+//! What holds of all rows, cells, verdicts and tables, for crates that cite it. The functions do nothing.
+ghost use Rattle.std.specs.Prelude.{◌≡◌, ◌↔◌, ◌<◌, ◌+◌, ◌++◌, ℕ, List, [], length};
+ghost use Rattle.std.specs.Prelude.{Option, Some, IsSome};
 ghost use Rattle.std.specs.FinMap as map;
 ghost use Rattle.urpf_base.specs.Address.{Block};
 ghost use Rattle.urpf_base.specs.Kinds.{mode_for};
 ghost use Rattle.urpf_base.specs.Lists.{Has};
+ghost use Rattle.urpf_base.specs.declared.address.Addr.{Addr};
 ghost use Rattle.urpf_base.specs.declared.cells.Cell.{Cell};
+ghost use Rattle.urpf_base.specs.declared.cells.CellChange.{CellChange};
 ghost use Rattle.urpf_base.specs.declared.kinds.Kind.{Kind};
+ghost use Rattle.urpf_base.specs.declared.verdicts.Verdict.{Verdict};
 ghost use Rattle.router_config.specs.Edits.{edited};
 ghost use Rattle.router_config.specs.Kinds.{kind_in};
 ghost use Rattle.prefix_map.specs.Mapped.{Mapped};
-ghost use Rattle.rpf_plain.specs.Cells.{IsCell, IsTable};
-ghost use Rattle.rpf_plain.specs.Modes.{Says, set_of};
+ghost use Rattle.rpf_plain.specs.Cells.{IsCell, IsDifference, IsTable};
+ghost use Rattle.rpf_plain.specs.Modes.{IsVerdict, Says, set_of};
 ghost use Rattle.rpf_plain.specs.Rows.{AreSameRows, repeats};
 ghost use Rattle.rpf_plain.specs.World.{IsConfigured, Pair, Roles, World, role_in, roles_of, with_role};
 ghost use Rattle.rpf_plain.specs.declared.rows.Row.{Row};
@@ -39,10 +43,15 @@ pub fn role_laws()
         → IsConfigured (with_role iface role roles) i ↔ IsConfigured roles i }
 {}
 
-/// That a world has one cell for a prefix, whatever the order of its rows, and that a prefix is in
-/// the set of an interface just where its cell says so by the mode of the interface.
+/// That a world has one cell for a prefix, which depends on which rows there are and not on their
+/// order or on how often they are there, and that a prefix is in the set of an interface just where
+/// its cell says so by the mode of the interface.
 pub fn cell_laws()
+    ensures some { (w : World) (p : Block) → (c : Cell) × IsCell w p c }
     ensures one { (w : World) (p : Block) (c d : Cell) → IsCell w p c → IsCell w p d → c ≡ d }
+    ensures members { (v w : World) → ((row : Row) → Has v.rows row ↔ Has w.rows row)
+        → v.roles ≡ w.roles → v.pairs ≡ w.pairs
+        → (p : Block) (c : Cell) → IsCell v p c → IsCell w p c }
     ensures order { (v w : World) → AreSameRows v.rows w.rows → v.roles ≡ w.roles → v.pairs ≡ w.pairs
         → (p : Block) (c : Cell) → IsCell v p c → IsCell w p c }
     ensures says { (w : World) (p : Block) (c : Cell) (i : ℕ) (kind : Kind) → IsCell w p c
@@ -50,9 +59,34 @@ pub fn cell_laws()
         → Has (set_of kind w i) p ↔ Says (mode_for kind.role kind.mode) i p c }
 {}
 
+/// That there is one verdict on each source, which depends on which rows there are and not on their
+/// order or on how often they are there.
+pub fn verdict_laws()
+    ensures some { (kinds : List (ℕ × Kind)) (rows : List Row) (pairs : List Pair) (iface : ℕ)
+        (source : Option Addr)
+        → (answer : Verdict) × IsVerdict kinds rows pairs iface source answer }
+    ensures one { (kinds : List (ℕ × Kind)) (rows : List Row) (pairs : List Pair) (iface : ℕ)
+        (source : Option Addr) (a b : Verdict)
+        → IsVerdict kinds rows pairs iface source a → IsVerdict kinds rows pairs iface source b
+        → a ≡ b }
+    ensures members { (kinds : List (ℕ × Kind)) (rows others : List Row)
+        → ((row : Row) → Has rows row ↔ Has others row)
+        → (pairs : List Pair) (iface : ℕ) (source : Option Addr) (answer : Verdict)
+        → IsVerdict kinds rows pairs iface source answer
+        → IsVerdict kinds others pairs iface source answer }
+{}
+
 /// That a world has one table of its cells, and that it is the empty one where there are no rows.
 pub fn table_laws()
+    ensures some { (w : World) → (m : Mapped Cell) × IsTable w m }
     ensures one { (w : World) (m n : Mapped Cell) → IsTable w m → IsTable w n → m ≡ n }
     ensures none { (roles : Roles) (pairs : List Pair)
         → IsTable (record { rows = []; roles = roles; pairs = pairs }) map.empty }
+{}
+
+/// That two worlds have one list of the prefixes whose cell differs.
+pub fn difference_laws()
+    ensures some { (old new : World) → (changes : List CellChange) × IsDifference old new changes }
+    ensures one { (old new : World) (a b : List CellChange)
+        → IsDifference old new a → IsDifference old new b → a ≡ b }
 {}

@@ -18,6 +18,6 @@ mod rows;
 mod table;
 
 pub use engine::SetEngine;
-pub use laws::{cell_laws, role_laws, row_laws, table_laws};
+pub use laws::{cell_laws, difference_laws, role_laws, row_laws, table_laws, verdict_laws};
 pub use plain::PlainEngine;
 pub use rows::Row;

@@ -328,7 +328,8 @@ edited_found : (here : Bool) (one row : Row) (changed rows : List Row) (n : ℕ)
 edited_found true one row changed rows n some more = refl
 edited_found false one row changed rows n some more = more some
 
-edited_kind_at : (edit : Edit) (rows : List Row) (n : ℕ) → IsConfigured rows n → IsConfigured (edited edit rows) n
+-- an interface that is edited stays configured
+pub edited_kind_at : (edit : Edit) (rows : List Row) (n : ℕ) → IsConfigured rows n → IsConfigured (edited edit rows) n
 edited_kind_at edit [] n some = some
 edited_kind_at edit (row ∷ rows) n some =
     rw (edited_row-number edit row)

@@ -5,7 +5,7 @@ use Rattle.std.specs.List.{slice_split, onto_first, position_or_len, prefix_len,
 use Rattle.std.proofs.lemmas.List.Splits.{slice_split-cons_yes, slice_split-cons_no}
 use Rattle.std.proofs.lemmas.Bool.{eqb-true}
 use Rattle.runbook.specs.Lines.{is_blank, is_word, words_in, words_of, ends_line, ended, lines_of, without_return}
-use Rattle.runbook.specs.Lines.{numbered_from, one_numbered}
+use Rattle.runbook.specs.Lines.{counted, numbered_from, one_numbered}
 
 one_plus : (n : ℕ) → 1 + n ≡ suc n
 one_plus n = omega arith
@@ -104,32 +104,35 @@ ended_more line text =
     subst (λ s. ended (line ∷ s) ≡ without_return line ∷ ended s) (sym (split ends_line text).parts) refl
 
 -- no line feed is left, so the text is its one line
-pub last_line : (text line after : List ℕ) (n number : ℕ) → n ≡ position_or_len ends_line text → line ≡ take n text
-    → after ≡ drop n text → (length after == 0) ≡ true
-    → numbered_from number (lines_of text) ≡ one_numbered number (words_of line)
-    ++ numbered_from (number + 1) (lines_of after)
-last_line text line [] n number place front back none =
+pub last_line : (text line after : List ℕ) (n number rounds : ℕ) → n ≡ position_or_len ends_line text
+    → line ≡ take n text → after ≡ drop n text → (length after == 0) ≡ true
+    → numbered_from number rounds (lines_of text) ≡ one_numbered number rounds (words_of line)
+    ++ numbered_from (number + 1) (counted rounds (words_of line)) (lines_of after)
+last_line text line [] n number rounds place front back none =
     let h = split ends_line text in
     let at : drop (position_or_len ends_line text) text ≡ [] = sym (back ∙ ap (λ k. drop k text) place) in
-    ap (λ s. numbered_from number (ended s))
+    ap (λ s. numbered_from number rounds (ended s))
     (h.parts ∙ ap (λ fs. take (position_or_len ends_line text) text ∷ fs) (h.ends at))
-    ∙ ap (λ l. one_numbered number (words_of l) ++ []) (ap (λ k. take k text) (sym place) ∙ sym front)
-last_line text line (c ∷ cs) n number place front back none = let zero_length : length (c ∷ cs) ≡ 0 = eqb-true _ _ none
-    in absurd (omega arith)
+    ∙ ap (λ l. one_numbered number rounds (words_of l) ++ []) (ap (λ k. take k text) (sym place) ∙ sym front)
+last_line text line (c ∷ cs) n number rounds place front back none =
+    let zero_length : length (c ∷ cs) ≡ 0 = eqb-true _ _ none in
+    absurd (omega arith)
 
 -- the text up to the line feed is a line, and behind the line feed the next begins
-pub one_line : (text line after rest : List ℕ) (n number : ℕ) → n ≡ position_or_len ends_line text → line ≡ take n text
-    → after ≡ drop n text → (length after == 0) ≡ false → rest ≡ drop 1 after
-    → numbered_from number (lines_of text) ≡ one_numbered number (words_of (without_return line))
-    ++ numbered_from (number + 1) (lines_of rest)
-one_line text line [] rest n number place front back some behind = cc
-one_line text line (c ∷ cs) rest n number place front back some behind =
+pub one_line : (text line after rest : List ℕ) (n number rounds : ℕ) → n ≡ position_or_len ends_line text
+    → line ≡ take n text → after ≡ drop n text → (length after == 0) ≡ false → rest ≡ drop 1 after
+    → numbered_from number rounds (lines_of text) ≡ one_numbered number rounds (words_of (without_return line))
+    ++ numbered_from (number + 1) (counted rounds (words_of (without_return line))) (lines_of rest)
+one_line text line [] rest n number rounds place front back some behind = cc
+one_line text line (c ∷ cs) rest n number rounds place front back some behind =
     let h = split ends_line text in
     let at : drop (position_or_len ends_line text) text ≡ c ∷ cs = sym (back ∙ ap (λ k. drop k text) place) in
-    ap (λ s. numbered_from number (ended s))
+    ap (λ s. numbered_from number rounds (ended s))
     (h.parts ∙ ap (λ fs. take (position_or_len ends_line text) text ∷ fs) (h.more c cs at))
-    ∙ ap (numbered_from number) (ended_more _ cs)
-    ∙ ap (λ l. one_numbered number (words_of (without_return l)) ++ numbered_from (number + 1) (lines_of cs))
+    ∙ ap (numbered_from number rounds) (ended_more _ cs)
+    ∙ ap (λ l. one_numbered number rounds (words_of (without_return l))
+    ++ numbered_from (number + 1) (counted rounds (words_of (without_return l))) (lines_of cs))
     (ap (λ k. take k text) (sym place) ∙ sym front)
-    ∙ ap (λ t. one_numbered number (words_of (without_return line)) ++ numbered_from (number + 1) (lines_of t))
+    ∙ ap (λ t. one_numbered number rounds (words_of (without_return line))
+    ++ numbered_from (number + 1) (counted rounds (words_of (without_return line))) (lines_of t))
     (sym behind)

@@ -4,3 +4,4 @@ pub mod Books
 pub mod BookLaws
 pub mod Outcomes
 pub mod Faults
+pub mod Named

@@ -1,6 +1,6 @@
 -- The lines of a runbook and their words. Our own format.
 use Rattle.std.specs.Prelude.{ℕ, ◌+◌, ◌-◌, ◌==◌, ◌||◌, Bool, true, false, List, [], ◌∷◌, ◌++◌, length, take}
-use Rattle.std.specs.Prelude.{slice_index, if◌then◌else◌}
+use Rattle.std.specs.Prelude.{slice_index, bytes_eq, codes, if◌then◌else◌}
 use Rattle.std.specs.List.{slice_split, before_first, filter}
 
 -- a line feed
@@ -41,16 +41,32 @@ words_in text = filter is_word (slice_split is_blank text)
 abbrev pub words_of : List ℕ → List (List ℕ)
 words_of line = words_in (before_first opens_comment line)
 
--- a line that has words, with its number
-abbrev pub one_numbered : ℕ → List (List ℕ) → List (ℕ × List (List ℕ))
-one_numbered number [] = []
-one_numbered number (word ∷ words) = (number, word ∷ words) ∷ []
+-- the words are those of a line that ends a round
+abbrev pub is_round : List (List ℕ) → Bool
+is_round (word ∷ []) = bytes_eq word (codes "round")
+is_round _ = false
 
--- the lines that have words, by their words, each with its number; the first line has this number
-abbrev pub numbered_from : ℕ → List (List ℕ) → List (ℕ × List (List ℕ))
-numbered_from number [] = []
-numbered_from number (line ∷ lines) = one_numbered number (words_of line) ++ numbered_from (number + 1) lines
+-- so many rounds are ended once these words are passed
+abbrev pub counted : ℕ → List (List ℕ) → ℕ
+counted rounds words = if is_round words then rounds + 1 else rounds
+
+-- a line that has words: its number, how many lines before it end a round, and its words
+pub record Line : Type 0 where
+  pub number : ℕ
+  pub rounds : ℕ
+  pub words : List (List ℕ)
+
+abbrev pub one_numbered : ℕ → ℕ → List (List ℕ) → List Line
+one_numbered number rounds [] = []
+one_numbered number rounds (word ∷ words) = record { number = number; rounds = rounds; words = word ∷ words } ∷ []
+
+-- the lines that have words, where the first line has this number and so many rounds are ended before it
+abbrev pub numbered_from : ℕ → ℕ → List (List ℕ) → List Line
+numbered_from number rounds [] = []
+numbered_from number rounds (line ∷ lines) =
+    one_numbered number rounds (words_of line)
+    ++ numbered_from (number + 1) (counted rounds (words_of line)) lines
 
 -- the lines of a text that have words; lines are numbered from 1
-abbrev pub numbered : List ℕ → List (ℕ × List (List ℕ))
-numbered text = numbered_from 1 (lines_of text)
+abbrev pub numbered : List ℕ → List Line
+numbered text = numbered_from 1 0 (lines_of text)

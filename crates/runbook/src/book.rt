@@ -1,14 +1,17 @@
 //! A runbook, and reading one: the octets of a text come in, and its lines go out, each with its
 //! number, or the first line that is refused.
-ghost use Rattle.std.specs.Prelude.{◌≡◌, ◌⊎◌, ℕ, ◌^◌, ◌<◌, List, [], ◌∷◌, ◌++◌, length, slice_get, IfOk, OnOk, OnErr};
+ghost use Rattle.std.specs.Prelude.{◌≡◌, ◌⊎◌, ℕ, ◌+◌, ◌^◌, ◌<◌, ◌≤◌, List, [], ◌∷◌, ◌++◌, length, slice_get, IfOk, OnOk};
+ghost use Rattle.std.specs.Prelude.{OnErr};
 ghost use Rattle.std.specs.Prelude.{Ok, Err, Some};
 ghost use Rattle.runbook.specs.declared.lines.BookKind.{BookKind};
 ghost use Rattle.runbook.specs.declared.lines.BookLine.{BookLine};
+ghost use Rattle.runbook.specs.Says.{rounds_after};
 ghost use Rattle.runbook.specs.Book.{IsBook, IsFirstFault, OpensTaken};
 
 use crate::cutting::first_line;
 use crate::lines::{BookKind, BookLine};
 use crate::reading::read_line;
+use router_config::Config;
 use std::alloc::Global;
 use std::marker::Model;
 use urpf_base::OutOfMemory;
@@ -80,40 +83,56 @@ impl Book {
     }
 }
 
-/// Reads the runbook, of fewer than 2^32 octets. `Bad` names the first line that is refused.
-pub fn read_book(alloc: Global, text: &[u8]) -> Result<Book, ReadBook>
+/// Reads the runbook of a configured router, of fewer than 2^32 octets. `Bad` names the first line
+/// that is refused.
+pub fn read_book(alloc: Global, text: &[u8], config: &Config) -> Result<Book, ReadBook>
     requires { length text.now < 2 ^ 32 }
     // What is read is the book of the text, and the fault is that of its first refused line.
-    ensures found { IfOk result (IsBook text.now) }
+    ensures found { IfOk result (IsBook config.now text.now) }
     ensures bad { (number : ℕ) (kind : BookKind)
         → result ≡ Err (ReadBook.Bad (record { line = number; kind = kind }))
-        → IsFirstFault text.now number kind }
+        → IsFirstFault config.now text.now number kind }
     // Where the text has a book it is read, unless memory runs out, and so with a fault.
-    ensures only { (rows : List (ℕ × BookLine)) → IsBook text.now rows
+    ensures only { (rows : List (ℕ × BookLine)) → IsBook config.now text.now rows
         → (result ≡ Ok rows) ⊎ (result ≡ Err ReadBook.OutOfMemory) }
-    ensures only_bad { (number : ℕ) (kind : BookKind) → IsFirstFault text.now number kind
+    ensures only_bad { (number : ℕ) (kind : BookKind) → IsFirstFault config.now text.now number kind
         → (result ≡ Err (ReadBook.Bad (record { line = number; kind = kind })))
         ⊎ (result ≡ Err ReadBook.OutOfMemory) }
+    // There are no more lines than octets.
+    ensures short { IfOk result (λ book. length book ≤ length text.now) }
     // Memory can run out only once a line was taken.
-    ensures memory { result ≡ Err ReadBook.OutOfMemory → OpensTaken text.now }
+    ensures memory { result ≡ Err ReadBook.OutOfMemory → OpensTaken config.now text.now }
 {
     let mut book = Book::new(alloc);
     let mut rest = text;
     let mut number = 0;
+    let mut rounds = 0;
     while !rest.is_empty() {
         let (line, after) = first_line(rest);
         number += 1;
         rest = after;
-        let Some(judged) = read_line(line) else {
+        let Some(judged) = read_line(config, rounds, line) else {
             continue;
         };
         let line = match judged {
             Ok(line) => line,
             Err(kind) => return Err(ReadBook::Bad(BookFault { line: number, kind })),
         };
+        rounds = rounds_after(rounds, &line);
         let Ok(()) = book.push(number, line) else {
             return Err(ReadBook::OutOfMemory);
         };
     }
     Ok(book)
+}
+
+/// How many rounds are ended once the line is taken.
+fn rounds_after(rounds: u32, line: &BookLine) -> u32
+    requires { rounds + 1 < 2 ^ 32 }
+    ensures { result ≡ rounds_after rounds line.now }
+{
+    match *line {
+        BookLine::Round => rounds + 1,
+        _ => rounds,
+    }
 }

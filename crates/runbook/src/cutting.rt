@@ -1,14 +1,15 @@
 //! Cutting a text: octets come in, and the octets of a line or of a part of it go out.
 ghost use Rattle.std.specs.Prelude.{◌≡◌, ℕ, ◌+◌, ◌<◌, ◌≤◌, ◌++◌, ◌==◌, length};
 ghost use Rattle.std.specs.List.{before_first, position_or_len};
-ghost use Rattle.runbook.specs.Lines.{lines_of, numbered_from, one_numbered, opens_comment, without_return, words_of};
+ghost use Rattle.runbook.specs.Lines.{counted, lines_of, numbered_from, one_numbered, opens_comment, without_return};
+ghost use Rattle.runbook.specs.Lines.{words_of};
 
 /// The first line without its end, and what follows it. Nothing follows a line that no LF ends.
 pub(crate) fn first_line(text: &[u8]) -> (&[u8], &[u8])
     requires { 0 < length text.now }
-    ensures parts { (number : ℕ) → numbered_from number (lines_of text.now)
-        ≡ one_numbered number (words_of result.0.now)
-        ++ numbered_from (number + 1) (lines_of result.1.now) }
+    ensures parts { (number : ℕ) (rounds : ℕ) → numbered_from number rounds (lines_of text.now)
+        ≡ one_numbered number rounds (words_of result.0.now)
+        ++ numbered_from (number + 1) (counted rounds (words_of result.0.now)) (lines_of result.1.now) }
     ensures shorter { length result.1.now < length text.now }
 {
     let (line, after) = text.split_at(place_of(text, b'\n'));

@@ -2,17 +2,25 @@
 ghost use Rattle.std.specs.Prelude.{◌≡◌, ◌⊎◌, ℕ, List};
 ghost use Rattle.runbook.specs.declared.lines.BookKind.{BookKind};
 ghost use Rattle.runbook.specs.declared.lines.BookLine.{BookLine};
-ghost use Rattle.runbook.specs.Book.{IsBook, IsFirstFault};
+ghost use Rattle.router_config.specs.Settings.{Settings};
+ghost use Rattle.runbook.specs.Book.{AreConfiguredFor, IsBook, IsFirstFault};
 
-/// A text is one runbook or has one first refused line, and never both.
+/// Over each configuration a text is one runbook or has one first refused line, and never both.
 pub fn one_book()
-    ensures some { (text : List ℕ) → ((rows : List (ℕ × BookLine)) × IsBook text rows)
-        ⊎ ((number : ℕ) × (kind : BookKind) × IsFirstFault text number kind) }
-    ensures only { (text : List ℕ) (rows others : List (ℕ × BookLine))
-        → IsBook text rows → IsBook text others → rows ≡ others }
-    ensures fault_only { (text : List ℕ) (number other : ℕ) (kind cause : BookKind)
-        → IsFirstFault text number kind → IsFirstFault text other cause
+    ensures some { (config : Settings) (text : List ℕ)
+        → ((rows : List (ℕ × BookLine)) × IsBook config text rows)
+        ⊎ ((number : ℕ) × (kind : BookKind) × IsFirstFault config text number kind) }
+    ensures only { (config : Settings) (text : List ℕ) (rows others : List (ℕ × BookLine))
+        → IsBook config text rows → IsBook config text others → rows ≡ others }
+    ensures fault_only { (config : Settings) (text : List ℕ) (number other : ℕ) (kind cause : BookKind)
+        → IsFirstFault config text number kind → IsFirstFault config text other cause
         → (number ≡ other) × (kind ≡ cause) }
-    ensures never_both { (text : List ℕ) (rows : List (ℕ × BookLine)) (number : ℕ) (kind : BookKind)
-        → IsBook text rows → IsFirstFault text number kind → ⊥ }
+    ensures never_both { (config : Settings) (text : List ℕ) (rows : List (ℕ × BookLine)) (number : ℕ)
+        (kind : BookKind) → IsBook config text rows → IsFirstFault config text number kind → ⊥ }
+{}
+
+/// The lines of a runbook name no session and no interface that is not configured.
+pub fn configured_lines()
+    ensures { (config : Settings) (text : List ℕ) (rows : List (ℕ × BookLine))
+        → IsBook config text rows → AreConfiguredFor config rows }
 {}

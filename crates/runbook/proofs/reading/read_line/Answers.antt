@@ -7,4 +7,4 @@ pub returns-clause-only : goal.returns-clause-only
 returns-clause-only c s h =
     let words : words_of c.args.line.now ≡ c.in-Some.first.now
     ∷ words_in c.in-Some.rest.now = ap words_in (sym c.cut_comment.ensures) ∙ c.in-Some.ensures.first in
-    c.judge_words.ensures.only s (subst (λ w. IsJudged w s) words h)
+    c.judge_words.ensures.only s (subst (λ w. IsJudged c.args.config.now c.args.rounds w s) words h)

@@ -1,0 +1,10 @@
+use Rattle.std.proofs.Common.{Some, None, ap, sym, ◌∙◌}
+use Rattle.std.proofs.lemmas.Slice.Eq.{bytes_eq-Decides}
+use Rattle.runbook.proofs.Sayings.{one_count}
+use Rattle.runbook.proofs.saying.read_count.Goals as goal
+
+pub returns-then-eq-clause-only : goal.returns-then-eq-clause-only
+returns-then-eq-clause-only c count h =
+    ap (λ s. Some s)
+    (one_count c.args.word.now None count
+    ((bytes_eq-Decides _ _).0 (sym c.eq.ensures ∙ c.if-eq.true) ∙ c.as_slice.ensures) h)

@@ -42,6 +42,14 @@ abbrev pub reset_line : ℕ → ℕ → ResetCause → List ℕ
 reset_line session item cause =
     codes "reset " ++ decimal session ++ codes " item " ++ decimal item ++ codes " " ++ cause_text cause ++ codes "\n"
 
+-- the end of a round: its number
+abbrev pub round_line : ℕ → List ℕ
+round_line round = codes "round " ++ decimal round ++ codes "\n"
+
+-- what is there now: how many rows and pairs
+abbrev pub summary_line : ℕ → ℕ → List ℕ
+summary_line rows pairs = codes "summary rows " ++ decimal rows ++ codes " pairs " ++ decimal pairs ++ codes "\n"
+
 -- the close of a run: the number of its last publication, and how many packets had a line
 abbrev pub done_line : ℕ → ℕ → List ℕ
 done_line publications packets =

@@ -2,8 +2,8 @@
 //! tells them goes out.
 //!
 //! `check ADDR V messages M prefixes P rest R` or `check I ADDR V N` with a line feed, where V is
-//! `pass` or `drop`.
-ghost use Rattle.std.specs.Prelude.{◌≡◌, ◌⊎◌, ◌+◌, ◌≤◌, [], ◌++◌, length};
+//! `pass`, `drop`, `badhead` or `noif`.
+ghost use Rattle.std.specs.Prelude.{◌≡◌, ◌+◌, ◌≤◌, [], ◌++◌, length};
 ghost use Rattle.report_text.specs.Lines.{check_line, check_one_line, verdict_of, verdict_text};
 
 use crate::fields::put_field;
@@ -28,8 +28,7 @@ pub fn put_one(addr: &Addr, pass: bool, messages: u64, prefixes: u64, rest: u64,
 
 /// The line of a check of a source on an interface against the publication of a number.
 pub fn put_check(iface: IfaceId, addr: &Addr, verdict: Verdict, number: u64, to: &mut Line)
-    requires empty { to.old ≡ [] }
-    requires judged { (verdict ≡ Verdict.Pass) ⊎ (verdict ≡ Verdict.Drop) }
+    requires { to.old ≡ [] }
     ensures { to.new ≡ check_line iface addr.now verdict number }
 {
     put_field(b"check ", u64::from(iface.number()), to);

@@ -7,4 +7,4 @@ mod fields;
 mod runs;
 
 pub use checks::{put_check, put_one};
-pub use runs::{put_done, put_end, put_mark, put_reset, put_run};
+pub use runs::{put_done, put_end, put_mark, put_reset, put_round, put_run, put_summary};

@@ -2,9 +2,11 @@
 //!
 //! `run interfaces I sessions S pairs P skipped K`, `publish N edits E cells C items K0 K1 ..`,
 //! `end S items K rest R`, `reset S item K fault C D`, `reset S item K notified C D`,
-//! `reset S item K closed` and `done publications N packets K`, each with a line feed.
+//! `reset S item K closed`, `round R`, `summary rows R pairs P` and `done publications N packets K`,
+//! each with a line feed.
 ghost use Rattle.std.specs.Prelude.{◌≡◌, ◌+◌, ◌*◌, ◌≤◌, [], ◌∷◌, ◌++◌, length, codes, decimal};
-ghost use Rattle.report_text.specs.Lines.{run_line, publish_line, end_line, reset_line, done_line, spaced, cause_text};
+ghost use Rattle.report_text.specs.Lines.{run_line, publish_line, end_line, reset_line, round_line};
+ghost use Rattle.report_text.specs.Lines.{summary_line, done_line, spaced, cause_text};
 
 use crate::fields::{WORD_OCTETS, put_field};
 use ip_text::put_number;
@@ -105,6 +107,25 @@ fn put_codes(word: &[u8], code: u8, sub: u8, to: &mut Line)
 {
     put_field(word, code as u64, to);
     put_field(b" ", sub as u64, to);
+}
+
+/// The end of a round, by its number, from 1.
+pub fn put_round(round: u64, to: &mut Line)
+    requires { to.old ≡ [] }
+    ensures { to.new ≡ round_line round }
+{
+    put_field(b"round ", round, to);
+    to.push(b"\n");
+}
+
+/// The summary: how many rows and how many pairs there are now.
+pub fn put_summary(rows: u64, pairs: u64, to: &mut Line)
+    requires { to.old ≡ [] }
+    ensures { to.new ≡ summary_line rows pairs }
+{
+    put_field(b"summary rows ", rows, to);
+    put_field(b" pairs ", pairs, to);
+    to.push(b"\n");
 }
 
 /// The last line: the number of the last publication, and how many packets had a line.

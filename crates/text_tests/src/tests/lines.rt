@@ -1,7 +1,9 @@
 //! Each line as it stands in the output.
 ghost use Rattle.std.specs.Prelude.{◌≡◌, ◌⊎◌};
 
-use report_text::{put_check, put_done, put_end, put_mark, put_one, put_reset, put_run};
+use report_text::{
+    put_check, put_done, put_end, put_mark, put_one, put_reset, put_round, put_run, put_summary,
+};
 use std::process::Abort;
 use urpf_base::{Addr, IfaceId, Line, ResetCause, Verdict};
 
@@ -18,6 +20,16 @@ fn a_run_opens_and_closes(rt: HostRuntime) {
     put_done(3, 17, &mut line);
     let closes = b"done publications 3 packets 17\n";
     assert_eq!(rt; line.bytes(), closes.as_slice());
+}
+
+#[test]
+fn a_round_and_a_summary_are_told(rt: HostRuntime) {
+    let mut line = Line::new();
+    put_round(1, &mut line);
+    assert_eq!(rt; line.bytes(), b"round 1\n".as_slice());
+    let mut line = Line::new();
+    put_summary(3, 0, &mut line);
+    assert_eq!(rt; line.bytes(), b"summary rows 3 pairs 0\n".as_slice());
 }
 
 /// Publications: number, edits, cells, the items of each session, and the line.

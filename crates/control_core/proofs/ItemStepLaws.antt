@@ -7,18 +7,23 @@ use Rattle.urpf_base.specs.Address.{Block}
 use Rattle.urpf_base.specs.RouteUpdates.{RouteUpdate}
 use Rattle.urpf_base.specs.declared.sessions.ResetCause.{ResetCause}
 use Rattle.urpf_base.specs.declared.sessions.SessionConfig.{SessionConfig}
-use Rattle.urpf_base.specs.declared.sessions.ResetCause.TheVariants.{Fault}
+use Rattle.urpf_base.specs.declared.sessions.ResetCause.TheVariants.{Closed, Fault}
 use Rattle.adj_rib.specs.Routes.{Routes, routes_at, prefixes_of}
 use Rattle.session_fsm.specs.declared.codes.TheConstants.{CEASE, MAXIMUM_PREFIXES_REACHED}
 use Rattle.session_fsm.specs.declared.items.Effect.{Effect}
 use Rattle.session_fsm.specs.declared.items.Effect.TheVariants.{Nothing, Advanced, Reset, Changes}
 use Rattle.session_fsm.specs.declared.items.Item.{Item}
-use Rattle.session_fsm.specs.declared.states.State.TheVariants.{Idle}
-use Rattle.session_fsm.specs.Table.{Outcome, SessionState, Step, ended}
+use Rattle.bgp_wire.specs.declared.header.TheConstants.{MESSAGE_HEADER_ERROR}
+use Rattle.session_fsm.specs.declared.codes.TheConstants.{HOLD_TIMER_EXPIRED, UNSPECIFIC}
+use Rattle.session_fsm.specs.declared.items.Item.TheVariants.{Up, Message, HeaderFault, Down, Elapsed}
+use Rattle.session_fsm.specs.declared.states.State.{State}
+use Rattle.session_fsm.specs.declared.states.State.TheVariants.{Idle, OpenSent, OpenConfirm, Established}
+use Rattle.session_fsm.specs.Seconds.{expires, later}
+use Rattle.session_fsm.specs.Table.{Outcome, SessionState, Step, ended, waited}
 use Rattle.control_core.specs.Effects.{HoldsSoMany, HoldsAll}
 use Rattle.control_core.specs.Table.{Applies}
 use Rattle.control_core.specs.Runs.{Limited}
-use Rattle.control_core.specs.ItemSteps.{TookRow, Changed}
+use Rattle.control_core.specs.ItemSteps.{IsMessageItem, TookRow, Changed}
 use Rattle.control_core.proofs.Held.{holds_after_nothing, holds_after_advance, holds_after_reset, holds_after_update}
 use Rattle.control_core.proofs.Held.{holds_so_many}
 
@@ -119,3 +124,46 @@ took_change old mid new item u routes reset same step before changed = record {
       subst (λ (k : SessionConfig). Limited k.max before (mid.state, Changes u) changed.outcome) same changed.limited;
   came = changed.came;
 }
+
+-- what a session waits for changes no routes
+waits : (b : Bool) (stay next : State) (update : RouteUpdate) → (next, Changes update) ≡ waited b stay → ⊥
+waits true stay next update is =
+    let clash : Changes update ≡ Reset (Fault HOLD_TIMER_EXPIRED UNSPECIFIC) = ap (λ (o : Outcome). o.1) is in cc
+waits false stay next update is = let clash : Changes update ≡ Nothing = ap (λ (o : Outcome). o.1) is in cc
+
+-- a message alone changes routes
+pub only_messages : (config : SessionConfig) (state : State) (item : Item) (next : State) (update : RouteUpdate)
+    → Step config state item (next, Changes update) → IsMessageItem item
+only_messages config state (Message kind body) next update step = tt
+only_messages config Idle Up next update step =
+    let clash : Changes update ≡ Advanced = ap (λ (o : Outcome). o.1) step in cc
+only_messages config (OpenSent timer) Up next update step =
+    let clash : Changes update ≡ Reset Closed = ap (λ (o : Outcome). o.1) step in cc
+only_messages config (OpenConfirm timer peer) Up next update step =
+    let clash : Changes update ≡ Reset Closed = ap (λ (o : Outcome). o.1) step in cc
+only_messages config (Established timer peer) Up next update step =
+    let clash : Changes update ≡ Reset Closed = ap (λ (o : Outcome). o.1) step in cc
+only_messages config Idle Down next update step =
+    let clash : Changes update ≡ Nothing = ap (λ (o : Outcome). o.1) step in cc
+only_messages config (OpenSent timer) Down next update step =
+    let clash : Changes update ≡ Reset Closed = ap (λ (o : Outcome). o.1) step in cc
+only_messages config (OpenConfirm timer peer) Down next update step =
+    let clash : Changes update ≡ Reset Closed = ap (λ (o : Outcome). o.1) step in cc
+only_messages config (Established timer peer) Down next update step =
+    let clash : Changes update ≡ Reset Closed = ap (λ (o : Outcome). o.1) step in cc
+only_messages config Idle (HeaderFault sub) next update step =
+    let clash : Changes update ≡ Nothing = ap (λ (o : Outcome). o.1) step in cc
+only_messages config (OpenSent timer) (HeaderFault sub) next update step =
+    let clash : Changes update ≡ Reset (Fault MESSAGE_HEADER_ERROR sub) = ap (λ (o : Outcome). o.1) step in cc
+only_messages config (OpenConfirm timer peer) (HeaderFault sub) next update step =
+    let clash : Changes update ≡ Reset (Fault MESSAGE_HEADER_ERROR sub) = ap (λ (o : Outcome). o.1) step in cc
+only_messages config (Established timer peer) (HeaderFault sub) next update step =
+    let clash : Changes update ≡ Reset (Fault MESSAGE_HEADER_ERROR sub) = ap (λ (o : Outcome). o.1) step in cc
+only_messages config Idle (Elapsed seconds) next update step =
+    let clash : Changes update ≡ Nothing = ap (λ (o : Outcome). o.1) step in cc
+only_messages config (OpenSent timer) (Elapsed seconds) next update step =
+    absurd (waits (expires timer seconds) (OpenSent (later timer seconds)) next update step)
+only_messages config (OpenConfirm timer peer) (Elapsed seconds) next update step =
+    absurd (waits (expires timer seconds) (OpenConfirm (later timer seconds) peer) next update step)
+only_messages config (Established timer peer) (Elapsed seconds) next update step =
+    absurd (waits (expires timer seconds) (Established (later timer seconds) peer) next update step)

@@ -12,6 +12,7 @@ use Rattle.control_core.specs.declared.limits.RunFault.{RunFault}
 use Rattle.control_core.specs.declared.limits.RunFault.TheVariants.{ReadFault, WriteFault, ItemLimit, OctetLimit}
 use Rattle.control_core.specs.declared.limits.RunFault.TheVariants.{OutOfMemory}
 use Rattle.control_core.specs.States.{PeerState}
+use Rattle.control_core.specs.FeedCalls.{Gave}
 use Rattle.control_core.specs.History.{StandsFor}
 use Rattle.control_core.specs.Turns.{Counts, HadMemory, IsTurnFault, Turned}
 use Rattle.control_core.specs.Pulls.{asks_more, EndsBy, StaysWithin, TakesAtMost, reset_lines}
@@ -50,7 +51,7 @@ takes_until count WriteFault old mid new limits within asks counts = absurd coun
 takes_until count (ItemLimit session) old mid new limits within asks counts = absurd counts
 takes_until count (OctetLimit session) old mid new limits within asks counts =
     takes_same count old mid new within counts.0
-takes_until count OutOfMemory old mid new limits within asks counts = takes_more count old mid new within asks counts.0
+takes_until count OutOfMemory old mid new limits within asks counts = takes_same count old mid new within counts.0
 
 -- a turn that failed passes no limit
 pub stays_until : (fault : RunFault) (old mid new : PeerState) (limits : Limits) → StaysWithin limits old mid
@@ -125,21 +126,16 @@ ends_at_end count limits old new (Ok done) unmet ended asks items octets err =
 ends_at_end count limits old new (Err fault) unmet ended asks items octets err =
     subst (λ (f : RunFault). EndsBy count limits old new (Err f)) (sym err) (unmet, λ is. asks)
 
--- a pull that memory ran out for, where it had come so far
-pub stopped_at : (count : Option ℕ) (events : List Event) (effects : List Effect) (old : PeerState)
-    (old_left left : Option (List Event)) (old_held held : Option (List ℕ)) (now : PeerState)
-    → now.session.config ≡ old.session.config → TakesAtMost count old now
-    → SoFar old.number events effects old_left left old_held held now
-    → Stopped count events effects old old_left old_held held
-stopped_at count events effects old old_left left old_held held now is most far = record {
+-- a pull that memory ran out for, which had come so far
+pub stopped_at : (events : List Event) (effects : List Effect) (old : PeerState)
+    (old_left mid_left new_left : Option (List Event)) (old_held held : Option (List ℕ)) (mid new : PeerState)
+    → SoFar old.number events effects old_left mid_left old_held held mid → new ≡ mid → new_left ≡ mid_left
+    → Stopped events effects old_left new_left old_held held old new
+stopped_at events effects old old_left mid_left new_left old_held held mid new far same left = record {
   gave = far.gave;
   more = far.more;
-  left = left;
-  told = far.told;
-  before = now;
-  config = is;
-  most = most;
-  stands = far.stands;
+  told = subst (Gave old_left far.gave) (sym left) far.told;
+  stands = subst (StandsFor (events ++ far.gave) (effects ++ far.more)) (sym same) far.stands;
   wrote = far.wrote;
 }
 

@@ -1,6 +1,7 @@
 -- What a turn comes to: the item that it took, the octets held, or the end of the feed.
 use Rattle.std.proofs.Common.{◌≡◌, ℕ, ◌+◌, Bool, true, false, List, [], ◌∷◌, ◌++◌, length, Option, Some}
 use Rattle.std.proofs.Common.{None, Result, Ok, Err, refl, sym, ap, subst, ◌∙◌}
+use Rattle.std.specs.Prelude.{OnErr, OnOk}
 use Rattle.std.proofs.lemmas.List.{append-nil}
 use Rattle.bgp_wire.specs.Frames.{End, Clean, IsShort}
 use Rattle.feed_io.specs.Events.{Event}
@@ -33,30 +34,36 @@ pub gave_none : (left : Option (List Event)) → Gave left [] left
 gave_none None = tt
 gave_none (Some events) = refl
 
--- the items and octets of a turn that took an item
-counts_item : (result : Result Turn RunFault) (old new : PeerState) (limits : Limits) → IsItem result
-    → CountsItem old new → Counts result old new limits
-counts_item (Ok (Took reset)) old new limits is counts = (counts.items, counts.octets, counts.ended)
-counts_item (Ok Octets) old new limits is counts = absurd is
-counts_item (Ok (turn.End rest)) old new limits is counts = absurd is
-counts_item (Err (ReadFault session)) old new limits is counts = let clash : ReadFault session ≡ OutOfMemory = is in cc
-counts_item (Err WriteFault) old new limits is counts = let clash : WriteFault ≡ OutOfMemory = is in cc
-counts_item (Err (ItemLimit session)) old new limits is counts = let clash : ItemLimit session ≡ OutOfMemory = is in cc
-counts_item (Err (OctetLimit session)) old new limits is counts = let clash : OctetLimit session ≡ OutOfMemory = is in
-    cc
-counts_item (Err OutOfMemory) old new limits is counts = (counts.items, counts.octets)
+-- the items and octets of a turn that took an item, or that memory ran out for
+counts_item : (result : Result Turn RunFault) (old begun new : PeerState) (limits : Limits)
+    → begun.session.items ≡ old.session.items → begun.octets ≡ old.octets → begun.ended ≡ old.ended → IsItem result
+    → OnOk result (CountsItem begun new) → OnErr result (new ≡ begun) → Counts result old new limits
+counts_item (Ok (Took reset)) old begun new limits items count ended is counts kept = (
+  counts.items ∙ ap (λ (n : ℕ). n + 1) items,
+  counts.octets ∙ count,
+  counts.ended ∙ ended,
+)
+counts_item (Ok Octets) old begun new limits items count ended is counts kept = absurd is
+counts_item (Ok (turn.End rest)) old begun new limits items count ended is counts kept = absurd is
+counts_item (Err (ReadFault session)) old begun new limits items count ended is counts kept =
+    let clash : ReadFault session ≡ OutOfMemory = is in cc
+counts_item (Err WriteFault) old begun new limits items count ended is counts kept =
+    let clash : WriteFault ≡ OutOfMemory = is in cc
+counts_item (Err (ItemLimit session)) old begun new limits items count ended is counts kept =
+    let clash : ItemLimit session ≡ OutOfMemory = is in cc
+counts_item (Err (OctetLimit session)) old begun new limits items count ended is counts kept =
+    let clash : OctetLimit session ≡ OutOfMemory = is in cc
+counts_item (Err OutOfMemory) old begun new limits items count ended is counts kept = (
+  ap (λ (p : PeerState). p.session.items) kept ∙ items,
+  ap (λ (p : PeerState). p.octets) kept ∙ count,
+)
 
 -- the same of a call that began with as many items and octets as the turn
 pub counts_one : (gave : List Event) (result : Result Turn RunFault) (old begun new : PeerState) (limits : Limits)
     → begun.session.items ≡ old.session.items → begun.octets ≡ old.octets → begun.ended ≡ old.ended
     → TakesOne gave begun new result → Counts result old new limits
 counts_one gave result old begun new limits items count ended one =
-    counts_item result old new limits one.item
-    (record {
-      items = one.counts.items ∙ ap (λ (n : ℕ). n + 1) items;
-      octets = one.counts.octets ∙ count;
-      ended = one.counts.ended ∙ ended;
-    })
+    counts_item result old begun new limits items count ended one.item one.counts one.kept
 
 -- a turn that took an item of an event that came, or of no new one
 pub turned_one : (events gave : List Event) (effects : List Effect) (old_left new_left : Option (List Event))
@@ -158,3 +165,13 @@ stands_unfilled events effects old new stands none session rib count framer wait
     stands_alike events effects (peer_of old) (peer_of new) stands session rib count
     (ap (λ (t : List ℕ). t ++ new.reassembly.waiting) framer
     ∙ ap (λ (t : List ℕ). old.reassembly.framer ++ t) (waiting ∙ sym none)) receiving
+
+-- the fault of an answer, or another where there is none
+abbrev fault_or : RunFault → Result (Unit {0}) RunFault → RunFault
+fault_or other (Ok done) = other
+fault_or other (Err fault) = fault
+
+-- a fault that a pull answers is the fault that a turn answers
+pub same_answer : (fault other : RunFault) → ◌≡◌ {A = Result (Unit {0}) RunFault} (Err fault) (Err other)
+    → ◌≡◌ {A = Result Turn RunFault} (Err fault) (Err other)
+same_answer fault other same = ap (λ (f : RunFault). Err f) (ap (fault_or fault) same)

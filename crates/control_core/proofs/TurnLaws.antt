@@ -1,7 +1,7 @@
 -- A turn of a session with its feed: the item that it took, or the octets that came.
 use Rattle.std.proofs.Common.{◌≡◌, ℕ, ◌+◌, Bool, true, false, List, [], ◌∷◌, ◌++◌, length, map, drop, Option, Some}
 use Rattle.std.proofs.Common.{None, Result, Ok, Err, refl, sym, ap, subst, ◌∙◌, append_assoc, arith, add-zero, zero-add}
-use Rattle.std.specs.Prelude.{IfOk}
+use Rattle.std.specs.Prelude.{IfOk, IsOk, OnErr, OnOk}
 use Rattle.std.proofs.lemmas.List.{append_cancel_left, append-nil}
 use Rattle.std.specs.List.{concat}
 use Rattle.std.specs.Borrow.{Bor}
@@ -29,22 +29,14 @@ use Rattle.control_core.specs.History.{HasFault, HoldsConnection, IsUsedUpTo, St
 use Rattle.control_core.specs.declared.reassembly.Reassembly.{Reassembly}
 use Rattle.control_core.specs.Runs.{Runs}
 use Rattle.control_core.specs.ItemSteps.{TookRow}
-use Rattle.control_core.specs.TurnParts.{IsItem, TakesOne, TookItem, answer_of}
+use Rattle.control_core.specs.TurnParts.{CountsItem, IsItem, TakesOne, TookItem, answer_of}
 use Rattle.control_core.specs.Turns.{HadMemory}
 use Rattle.control_core.proofs.ItemLaws.{needed, needed_is, needed_behind, needed_more, none_needed, fault_needed}
 use Rattle.control_core.proofs.ItemLaws.{still_faulty, brought, connection_at_end-append}
 use Rattle.control_core.proofs.HistoryLaws.{SameBut, takes_message, stands_after_pending, stands_after_event}
 use Rattle.control_core.proofs.HistoryLaws.{items_one_more, none_pending, connection_begun, message_pending}
 use Rattle.control_core.proofs.HistoryLaws.{fault_behind, fault_pending}
-
--- how many octets came in events one after the other
-pub octet_count-append : (events later : List Event)
-    → octet_count (events ++ later) ≡ octet_count events + octet_count later
-octet_count-append [] later = sym (zero-add (octet_count later))
-octet_count-append (up ∷ events) later = octet_count-append events later
-octet_count-append (octets piece ∷ events) later = omega (arith, octet_count-append events later)
-octet_count-append (down ∷ events) later = octet_count-append events later
-octet_count-append (elapsed seconds ∷ events) later = octet_count-append events later
+use Rattle.control_core.proofs.OctetCounts.{octet_count-append}
 
 -- a peering that holds no octets
 holds_none_of : (receiving : Bool) (connection : Connection) (new : Peering) → new.reassembly.framer ≡ []
@@ -144,34 +136,79 @@ item_answered : (taken : Result (Option ResetCause) memory.OutOfMemory) (result 
 item_answered (Ok reset) result same = subst IsItem (sym same) tt
 item_answered (Err failed) result same = subst IsItem (sym same) refl
 
--- a call took an item of the octets held, or of an event
+-- a call took an item of the octets held, or of an event, or memory ran out and it changed nothing
 pub takes_one : (gave : List Event) (old new : PeerState) (taken : Result (Option ResetCause) memory.OutOfMemory)
-    (result : Result Turn RunFault)
-    → new.session.config ≡ old.session.config → new.session.items ≡ old.session.items + 1
-    → new.octets ≡ old.octets → new.ended ≡ old.ended → new.number ≡ old.number → result ≡ answer_of taken
+    (result : Result Turn RunFault) → new.session.config ≡ old.session.config
+    → OnOk taken (new.session.items ≡ old.session.items + 1) → new.octets ≡ old.octets → new.ended ≡ old.ended
+    → new.number ≡ old.number → OnErr taken (new ≡ old) → result ≡ answer_of taken
     → (SameBut old new → (events : List Event) (effects : List Effect) → StandsFor events effects old
     → HadMemory result → TookItem (events ++ gave) effects new result)
     → TakesOne gave old new result
-takes_one gave old new taken result config items count ended number answer took = record {
+takes_one gave old new (Ok reset) result config items count ended number kept answer took = record {
   took = took (record { config = config; items = items; octets = count });
-  counts = record { items = items; octets = count; ended = ended };
-  item = item_answered taken result answer;
+  counts = subst (λ (r : Result Turn RunFault). OnOk r (CountsItem old new)) (sym answer)
+      (record { items = items; octets = count; ended = ended });
+  kept = subst (λ (r : Result Turn RunFault). OnErr r (new ≡ old)) (sym answer) tt;
+  item = item_answered (Ok reset) result answer;
+  number = number;
+  config = config;
+}
+takes_one gave old new (Err failed) result config items count ended number kept answer took = record {
+  took = λ events effects stands memory. absurd (subst HadMemory answer memory);
+  counts = subst (λ (r : Result Turn RunFault). OnOk r (CountsItem old new)) (sym answer) tt;
+  kept = subst (λ (r : Result Turn RunFault). OnErr r (new ≡ old)) (sym answer) kept;
+  item = item_answered (Err failed) result answer;
   number = number;
   config = config;
 }
 
 pub takes_held : (old new : PeerState) (taken : Result (Option ResetCause) memory.OutOfMemory)
-    (result : Result Turn RunFault)
-    → new.session.config ≡ old.session.config → new.session.items ≡ old.session.items + 1
-    → new.octets ≡ old.octets → new.ended ≡ old.ended → new.number ≡ old.number → result ≡ answer_of taken
+    (result : Result Turn RunFault) → new.session.config ≡ old.session.config
+    → OnOk taken (new.session.items ≡ old.session.items + 1) → new.octets ≡ old.octets → new.ended ≡ old.ended
+    → new.number ≡ old.number → OnErr taken (new ≡ old) → result ≡ answer_of taken
     → (SameBut old new → (events : List Event) (effects : List Effect) → StandsFor events effects old
     → HadMemory result → TookItem events effects new result)
     → TakesOne [] old new result
-takes_held old new taken result config items count ended number answer took =
-    takes_one [] old new taken result config items count ended number answer
+takes_held old new taken result config items count ended number kept answer took =
+    takes_one [] old new taken result config items count ended number kept answer
     (λ same events effects stands memory.
     subst (λ (es : List Event). TookItem es effects new result) (sym (append-nil events))
     (took same events effects stands memory))
+
+-- an item that is no message takes no memory, so it was taken
+pub never_kept : (P : Type 0) (taken : Result (Option ResetCause) memory.OutOfMemory) → OnErr taken ⊥ → OnErr taken P
+never_kept P (Ok reset) never = tt
+never_kept P (Err failed) never = absurd never
+
+pub surely_taken : (taken : Result (Option ResetCause) memory.OutOfMemory) (result : Result Turn RunFault)
+    → OnErr taken ⊥ → result ≡ answer_of taken → IsOk result
+surely_taken (Ok reset) result never answer = subst IsOk (sym answer) refl
+surely_taken (Err failed) result never answer = absurd never
+
+-- what is to hold where an item was not taken, where it was taken and where it was not
+pub kept_where_taken : (P : Type 0) (taken : Result (Option ResetCause) memory.OutOfMemory)
+    (reset : Option ResetCause) → taken ≡ Ok reset → OnErr taken P
+kept_where_taken P taken reset is =
+    subst (λ (r : Result (Option ResetCause) memory.OutOfMemory). OnErr r P) (sym is) tt
+
+pub kept_where_refused : (P : Type 0) (taken : Result (Option ResetCause) memory.OutOfMemory)
+    (failed : memory.OutOfMemory) → taken ≡ Err failed → P → OnErr taken P
+kept_where_refused P taken failed is holds =
+    subst (λ (r : Result (Option ResetCause) memory.OutOfMemory). OnErr r P) (sym is) holds
+
+-- two sessions that hold, count and have the same are the same
+pub same_peer : (old new : PeerState) → new.number ≡ old.number → new.session ≡ old.session → new.routes ≡ old.routes
+    → new.held ≡ old.held → new.receiving ≡ old.receiving → new.octets ≡ old.octets → new.ended ≡ old.ended
+    → new ≡ old
+same_peer old new number session routes held receiving count ended i = record {
+  number = number i;
+  session = session i;
+  routes = routes i;
+  held = held i;
+  receiving = receiving i;
+  octets = count i;
+  ended = ended i;
+}
 
 -- the message in front was taken
 pub took_message : (events : List Event) (effects : List Effect) (old new : Peering) (kind : MsgKind)

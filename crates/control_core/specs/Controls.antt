@@ -1,35 +1,190 @@
--- A control at its opening, and what a publication changes. Our own choice.
-use Rattle.std.specs.Prelude.{◌≡◌, ℕ, ◌+◌, false, []}
+-- What a control of many sessions stands for, and what its calls change. Our own choice.
+use Rattle.std.specs.Prelude.{◌≡◌, ℕ, ◌+◌, ◌≤◌, false, List, [], ◌∷◌, ◌++◌, length, map, Option, Some, Result}
+use Rattle.std.specs.Prelude.{slice_get, slice_set, sum}
+use Rattle.std.specs.List.{AllByRecursion}
+use Rattle.urpf_base.specs.Address.{Block}
+use Rattle.urpf_base.specs.Faults.{CountsFault}
+use Rattle.urpf_base.specs.declared.address.Addr.{Addr}
+use Rattle.urpf_base.specs.declared.cells.CellChange.{CellChange}
+use Rattle.urpf_base.specs.declared.kinds.Kind.{Kind}
 use Rattle.urpf_base.specs.declared.sessions.SessionConfig.{SessionConfig}
+use Rattle.urpf_base.specs.declared.verdicts.Verdict.{Verdict}
+use Rattle.adj_rib.specs.Routes.{prefixes_of}
+use Rattle.feed_io.specs.Events.{Event}
+use Rattle.router_config.specs.Edits.{edited}
+use Rattle.router_config.specs.Settings.{Settings}
+use Rattle.router_config.specs.declared.edits.Edit.{Edit}
+use Rattle.rpf_plain.specs.Cells.{AreChanges, IsDifference, IsTable, cell_at}
+use Rattle.rpf_plain.specs.Engine.{EngineState, IsDrained}
+use Rattle.rpf_plain.specs.Modes.{IsVerdict}
+use Rattle.rpf_plain.specs.World.{World, roles_of}
+use Rattle.session_fsm.specs.declared.items.Effect.{Effect}
 use Rattle.control_core.specs.declared.limits.Limits.{Limits}
-use Rattle.control_core.specs.Differences.{IsDifference}
-use Rattle.control_core.specs.Effects.{HoldsAll}
+use Rattle.control_core.specs.declared.limits.RunFault.{RunFault}
 use Rattle.control_core.specs.History.{StandsFor}
-use Rattle.control_core.specs.States.{ControlState}
+use Rattle.control_core.specs.Pulls.{Pull}
+use Rattle.control_core.specs.Judging.{Absorbs}
+use Rattle.control_core.specs.States.{ControlState, PeerState, Published}
+use Rattle.control_core.specs.Worlds.{Course, IsWorldAt, Position, last_number}
 
--- no event came to session 0, no item was taken, and publication 0 has no routes
-pub record IsOpened (config : SessionConfig) (limits : Limits) (control : ControlState) : Type 0 where
-  pub stands : StandsFor [] [] control.peer
-  pub session : control.peer.number ≡ 0
-  pub config_is : control.peer.session.config ≡ config
-  pub ended : control.peer.ended ≡ false
-  pub published : HoldsAll [] control.published
-  pub number : control.number ≡ 0
+-- how many items each session took
+abbrev pub items_of : List PeerState → List ℕ
+items_of peers = map (λ p. p.session.items) peers
+
+-- where the control is, with the number of its last publication
+abbrev pub position_of : ControlState → ℕ → Position
+position_of control number = record { number = number; edits = control.edits; items = items_of control.peers }
+
+-- each session stands for its course
+abbrev pub AllStand : List Course → List PeerState → Type 0
+AllStand [] [] = Unit {0}
+AllStand [] (peer ∷ peers) = ⊥
+AllStand (course ∷ courses) [] = ⊥
+AllStand (course ∷ courses) (peer ∷ peers) =
+    (peer.session.config ≡ course.config) × StandsFor course.events course.effects peer × AllStand courses peers
+
+-- no number of the first list is above that of the second
+abbrev pub AreAtMost : List ℕ → List ℕ → Type 0
+AreAtMost [] [] = Unit {0}
+AreAtMost [] (n ∷ ns) = ⊥
+AreAtMost (m ∷ ms) [] = ⊥
+AreAtMost (m ∷ ms) (n ∷ ns) = (m ≤ n) × AreAtMost ms ns
+
+-- a position is none that is still to come
+pub record IsReached (mark now : Position) : Type 0 where
+  pub edits : mark.edits ≤ now.edits
+  pub items : AreAtMost mark.items now.items
+
+-- a control stands for an opening, edits and the course of each session: its kinds are those of the opening after the
+-- edits, its engine has the world of now, its table is that of the world of the last mark, and it judges by the same
+-- cells; no event and no edit is kept
+pub record ControlStandsFor (opening : Settings) (edits : List Edit) (courses : List Course)
+    (control : ControlState) : Type 0 where
+  pub sessions : map (λ c. c.config) courses ≡ opening.sessions
+  pub stand : AllStand courses control.peers
+  pub counted : control.edits ≡ length edits
+  pub earlier : List Position
+  pub last : Position
+  pub marks : control.marks ≡ earlier ++ last ∷ []
+  pub reached : IsReached last (position_of control last.number)
+  pub now : IsWorldAt opening edits courses (position_of control last.number) control.kinds control.engine.world
+  pub marked : World
+  pub is_marked : IsWorldAt opening edits courses last control.published.kinds marked
+  pub base : IsTable marked control.engine.base
+  pub cells : (p : Block) → cell_at control.published.cells p ≡ cell_at control.engine.base p
+
+-- no event came to a session yet
+abbrev pub not_begun : SessionConfig → Course
+not_begun config = record { config = config; events = []; effects = [] }
+
+-- mark 0: no edit, and no item of any session
+abbrev pub first_mark : List SessionConfig → Position
+first_mark sessions = record { number = 0; edits = 0; items = map (λ s. 0) sessions }
+
+-- a new control: no event came, no feed met its end, nothing was edited, and mark 0 is the only one
+pub record IsOpened (config : Settings) (limits : Limits) (control : ControlState) : Type 0 where
+  pub stands : ControlStandsFor config [] (map not_begun config.sessions) control
+  pub unmet : AllByRecursion (λ p. p.ended ≡ false) control.peers
+  pub marks : control.marks ≡ first_mark config.sessions ∷ []
   pub limits_are : control.limits ≡ limits
   pub exhausted : control.exhausted ≡ false
 
--- the last publication and the limits are as they were
+-- how many routes the sessions have together
+abbrev pub route_count : List PeerState → ℕ
+route_count peers = sum (map (λ p. length (prefixes_of p.routes)) peers)
+
+-- the marks, the cells that are judged by and the limits are as they were
 pub record KeepsPublished (old new : ControlState) : Type 0 where
-  pub published : new.published ≡ old.published
-  pub number : new.number ≡ old.number
+  pub marks : new.marks ≡ old.marks
+  pub judged : new.published.kinds ≡ old.published.kinds
+  pub cells : (p : Block) → cell_at new.published.cells p ≡ cell_at old.published.cells p
   pub limits : new.limits ≡ old.limits
 
--- the routes of the session are the next publication, which is answered with the number of prefixes that came or went;
--- nothing else is changed
+-- the interfaces and the edits are as they were
+pub record KeepsKinds (old new : ControlState) : Type 0 where
+  pub kinds : new.kinds ≡ old.kinds
+  pub edits : new.edits ≡ old.edits
+
+-- the session of this number is pulled: no other one changes, and no other feed is asked
+pub record PullsOne {F : Type 0} (left : F → Option (List Event)) (session : ℕ) (count : Option ℕ) (limits : Limits)
+    (old_feeds new_feeds : List F) (old_held new_held : Option (List ℕ)) (result : Result (Unit {0}) RunFault)
+    (old new : List PeerState) : Type 0 where
+  pub peer : PeerState
+  pub was : slice_get old session ≡ Some peer
+  pub number : peer.number ≡ session
+  pub later : PeerState
+  pub is : new ≡ slice_set old session later
+  pub feed : F
+  pub had : slice_get old_feeds session ≡ Some feed
+  pub next : F
+  pub has : new_feeds ≡ slice_set old_feeds session next
+  pub pull : Pull count limits (left feed) (left next) old_held new_held result peer later
+
+-- the faults of one feed of several
+pub record CountsOne {F : Type 0} (faults : F → ℕ) (session : ℕ) (failed : Type 0) (old new : List F) : Type 0 where
+  pub feed : F
+  pub had : slice_get old session ≡ Some feed
+  pub next : F
+  pub has : new ≡ slice_set old session next
+  pub counts : CountsFault failed (faults feed) (faults next)
+
+-- the session's course with more events of its feed, and the effects of more items
+abbrev pub goes_on : Course → List Event → List Effect → Course
+goes_on course gave more =
+    record { config = course.config; events = course.events ++ gave; effects = course.effects ++ more }
+
+-- where the roles of an engine are those of the interfaces, they are so after the edit; all else of it is as it was
+pub record EditsRoles (edit : Edit) (old new : EngineState) : Type 0 where
+  pub rows : new.world.rows ≡ old.world.rows
+  pub roles : (kinds : List (ℕ × Kind)) → old.world.roles ≡ roles_of kinds
+      → new.world.roles ≡ roles_of (edited edit kinds)
+  pub pairs : new.world.pairs ≡ old.world.pairs
+  pub base : new.base ≡ old.base
+
+-- an edit counts, also where it changes nothing; the routes and the last publication are as they were
+pub record Edits (edit : Edit) (old new : ControlState) : Type 0 where
+  pub kinds : new.kinds ≡ edited edit old.kinds
+  pub counted : new.edits ≡ old.edits + 1
+  pub peers : new.peers ≡ old.peers
+  pub published : KeepsPublished old new
+
+-- a publication has the next number and a mark of now; nothing else is changed but what is judged by
 pub record Publishes (old new : ControlState) (answer : ℕ × ℕ) : Type 0 where
-  pub number : answer.0 ≡ old.number + 1
-  pub now : new.number ≡ answer.0
-  pub cells : IsDifference old.published old.peer.routes answer.1
-  pub published : new.published ≡ old.peer.routes
-  pub peer : new.peer ≡ old.peer
+  pub number : answer.0 ≡ last_number old.marks + 1
+  pub marks : new.marks ≡ old.marks ++ position_of old answer.0 ∷ []
+  pub kinds : new.published.kinds ≡ old.kinds
+  pub peers : new.peers ≡ old.peers
   pub limits : new.limits ≡ old.limits
+  pub kept : KeepsKinds old new
+
+-- the parts of a publication: the changes of the engine since its last drain are counted, a mark of these items and
+-- edits is made, and the changes are taken over into what is judged by
+pub record PublishesParts (items : List ℕ) (edits : ℕ) (kinds : List (ℕ × Kind)) (old_sets new_sets : EngineState)
+    (old_marks new_marks : List Position) (old_shown new_shown : Published) (answer : ℕ × ℕ) : Type 0 where
+  pub changes : List CellChange
+  pub number : answer.0 ≡ last_number old_marks + 1
+  pub cells : answer.1 ≡ length changes
+  pub changed : AreChanges old_sets.world old_sets.base changes
+  pub drained : IsDrained old_sets new_sets
+  pub marks : new_marks ≡ old_marks ++ record { number = answer.0; edits = edits; items = items } ∷ []
+  pub judged : new_shown.kinds ≡ kinds
+  pub absorbs : Absorbs changes old_shown.cells new_shown.cells
+
+-- a publication counts the cells that differ between the worlds of the last mark and of now
+pub record PublishesDifference (opening : Settings) (edits : List Edit) (courses : List Course)
+    (old new : ControlState) (answer : ℕ × ℕ) : Type 0 where
+  pub earlier : List Position
+  pub last : Position
+  pub marks : old.marks ≡ earlier ++ last ∷ []
+  pub before : World
+  pub was : IsWorldAt opening edits courses last old.published.kinds before
+  pub after : World
+  pub is : IsWorldAt opening edits courses (position_of old answer.0) new.published.kinds after
+  pub changes : List CellChange
+  pub difference : IsDifference before after changes
+  pub cells : answer.1 ≡ length changes
+
+-- the verdict by what was published last
+abbrev pub IsVerdictNow : ControlState → World → ℕ → Addr → Verdict → Type 0
+IsVerdictNow control world iface addr answer =
+    IsVerdict control.published.kinds world.rows world.pairs iface (Some addr) answer

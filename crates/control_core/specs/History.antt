@@ -23,9 +23,8 @@ pub record HasFault (text : List ℕ) : Type 0 where
   pub fault : framing.end ≡ Fault subcode
 
 -- how the octets that are held, and the items still to be taken, stand to the connection that reaches the end of the
--- events:
--- where it takes more octets they are what its items have not used; where no transport is up, or its header fault was
--- taken, there are none
+-- events: where it takes more octets they are what its items have not used; where no transport is up, or its header
+-- fault was taken, there are none
 abbrev pub HoldsConnection : Bool → Connection → List ℕ → List Item → Type 0
 HoldsConnection true None octets pending = ⊥
 HoldsConnection true (Some text) octets pending = IsUsedUpTo text octets pending
@@ -33,8 +32,7 @@ HoldsConnection false None octets pending = (octets ≡ []) × (pending ≡ [])
 HoldsConnection false (Some text) octets pending = (octets ≡ []) × (pending ≡ []) × HasFault text
 
 -- the session took the first items of these events, which had these effects; it has the state and the routes that they
--- leave,
--- holds the octets that they have not used, and counts the octets of all events
+-- leave, holds the octets that they have not used, and counts the octets of all events
 pub record StandsFor (events : List Event) (effects : List Effect) (peer : PeerState) : Type 0 where
   pub took : List Item
   pub pending : List Item

@@ -6,6 +6,7 @@ use Rattle.adj_rib.specs.Routes.{Routes}
 use Rattle.session_fsm.specs.declared.items.Effect.{Effect}
 use Rattle.session_fsm.specs.declared.items.Effect.TheVariants.{Nothing, Advanced, Reset, Changes}
 use Rattle.session_fsm.specs.declared.items.Item.{Item}
+use Rattle.session_fsm.specs.declared.items.Item.TheVariants.{Up, Message, HeaderFault, Down, Elapsed}
 use Rattle.session_fsm.specs.Table.{Outcome, SessionState, Step}
 use Rattle.control_core.specs.Effects.{HoldsAll}
 use Rattle.control_core.specs.Runs.{Limited}
@@ -39,3 +40,11 @@ pub record Changed (old : SessionState) (update : RouteUpdate) (before : List Ef
   pub outcome : Outcome
   pub limited : Limited old.config.max before (old.state, Changes update) outcome
   pub came : Came outcome before new routes reset
+
+-- the item is a message, as an UPDATE is
+abbrev pub IsMessageItem : Item → Type 0
+IsMessageItem Up = ⊥
+IsMessageItem (Message kind body) = Unit {0}
+IsMessageItem (HeaderFault sub) = ⊥
+IsMessageItem Down = ⊥
+IsMessageItem (Elapsed seconds) = ⊥

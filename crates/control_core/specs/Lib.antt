@@ -1,10 +1,13 @@
 pub mod Controls
-pub mod Differences
 pub mod Effects
+pub mod EngineRows
 pub mod FeedCalls
 pub mod History
 pub mod ItemSteps
 pub mod Items
+pub mod Judging
+pub mod Kept
+pub mod Openings
 pub mod Peers
 pub mod Pulls
 pub mod Runs
@@ -12,3 +15,4 @@ pub mod States
 pub mod Table
 pub mod TurnParts
 pub mod Turns
+pub mod Worlds

@@ -77,17 +77,13 @@ TakesAtMost None old new = old.session.items ≤ new.session.items
 TakesAtMost (Some count) old new =
     (old.session.items ≤ new.session.items) × (new.session.items ≤ old.session.items + count)
 
--- a pull that memory ran out for had stood for so much before, and a sink had taken the lines of the resets so far
-pub record Stopped (count : Option ℕ) (events : List Event) (effects : List Effect) (old : PeerState)
-    (old_left : Option (List Event)) (old_held new_held : Option (List ℕ)) : Type 0 where
+-- a pull that memory ran out for took whole items before that, and a sink took the lines of the resets among them
+pub record Stopped (events : List Event) (effects : List Effect) (old_left new_left : Option (List Event))
+    (old_held new_held : Option (List ℕ)) (old new : PeerState) : Type 0 where
   pub gave : List Event
   pub more : List Effect
-  pub left : Option (List Event)
-  pub told : Gave old_left gave left
-  pub before : PeerState
-  pub config : before.session.config ≡ old.session.config
-  pub most : TakesAtMost count old before
-  pub stands : StandsFor (events ++ gave) (effects ++ more) before
+  pub told : Gave old_left gave new_left
+  pub stands : StandsFor (events ++ gave) (effects ++ more) new
   pub wrote : Appends old_held new_held (reset_lines old.number (length effects) more)
 
 -- more items are asked for than were taken, and the end was met neither before nor now
@@ -127,7 +123,7 @@ pub record Pull (count : Option ℕ) (limits : Limits) (old_left new_left : Opti
   pub pulled : (events : List Event) (effects : List Effect) → StandsFor events effects old → HadMemory result
       → Pulled events effects old_left new_left old_held new_held result old new
   pub stopped : (events : List Event) (effects : List Effect) → StandsFor events effects old → result ≡ Err OutOfMemory
-      → Stopped count events effects old old_left old_held new_held
+      → Stopped events effects old_left new_left old_held new_held old new
   pub ends : EndsBy count limits old new result
   pub most : TakesAtMost count old new
   pub within : StaysWithin limits old new

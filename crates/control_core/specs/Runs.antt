@@ -26,8 +26,7 @@ Steps config state went_down outcome = Step config state Down outcome
 Steps config state (passed seconds) outcome = Step config state (Elapsed seconds) outcome
 
 -- what a row comes to after items of these effects: itself, but where it changes routes and leaves more prefixes than
--- the maximum,
--- the session ends instead (RFC 4486, section 4)
+-- the maximum, the session ends instead (RFC 4486, section 4)
 abbrev pub Limited : ℕ → List Effect → Outcome → Outcome → Type 0
 Limited maximum before (next, Nothing) outcome = outcome ≡ (next, Nothing)
 Limited maximum before (next, Advanced) outcome = outcome ≡ (next, Advanced)

@@ -1,5 +1,5 @@
 -- What the parts of a turn do. Our own choice, over the definitions of items and their effects.
-use Rattle.std.specs.Prelude.{◌≡◌, ◌+◌, List, [], ◌∷◌, ◌++◌, Option, Result, Ok, Err}
+use Rattle.std.specs.Prelude.{◌≡◌, ◌+◌, List, [], ◌∷◌, ◌++◌, Option, Result, Ok, Err, OnOk, OnErr}
 use Rattle.urpf_base.specs.declared.outside.OutOfMemory as memory
 use Rattle.urpf_base.specs.declared.sessions.ResetCause.{ResetCause}
 use Rattle.feed_io.specs.Events.{Event}
@@ -38,11 +38,13 @@ IsItem (Ok Octets) = ⊥
 IsItem (Ok (End rest)) = ⊥
 IsItem (Err fault) = fault ≡ OutOfMemory
 
--- a call of a session that takes one item: of the octets that it held where no event came, and else of that event
+-- a call of a session that takes one item: of the octets that it held where no event came, and else of that event;
+-- where memory ran out nothing is changed
 pub record TakesOne (gave : List Event) (old new : PeerState) (result : Result Turn RunFault) : Type 0 where
   pub took : (events : List Event) (effects : List Effect) → StandsFor events effects old → HadMemory result
       → TookItem (events ++ gave) effects new result
-  pub counts : CountsItem old new
+  pub counts : OnOk result (CountsItem old new)
+  pub kept : OnErr result (new ≡ old)
   pub item : IsItem result
   pub number : new.number ≡ old.number
   pub config : new.session.config ≡ old.session.config

@@ -65,4 +65,4 @@ Counts (Err (ItemLimit session)) old new limits = ⊥
 Counts (Err (OctetLimit session)) old new limits =
     (new.session.items ≡ old.session.items) × (new.ended ≡ old.ended) × (limits.octets ≤ new.octets) × IsShort new.held
     × (new.octets ≡ old.octets)
-Counts (Err OutOfMemory) old new limits = (new.session.items ≡ old.session.items + 1) × (new.octets ≡ old.octets)
+Counts (Err OutOfMemory) old new limits = (new.session.items ≡ old.session.items) × (new.octets ≡ old.octets)

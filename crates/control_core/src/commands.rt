@@ -1,126 +1,226 @@
-//! What a control does: it pulls the items of a session, publishes its routes under numbers, and
-//! judges sources by what was published last.
-ghost use Rattle.std.specs.Prelude.{◌≡◌, ◌⊎◌, ◌-◌, ◌^◌, ◌<◌, ◌≤◌, ◌↔◌, Ok, Err, IfOk, OnErr, OnOk, true, false};
-ghost use Rattle.urpf_base.specs.Address.{Block, Covers};
+//! What a control does: it pulls the items of a session, takes edits, publishes cells under numbers,
+//! and judges sources by what was published last.
+ghost use Rattle.std.specs.Prelude.{◌≡◌, ◌^◌, ◌<◌, ◌≤◌, ◌↔◌, ℕ, List, [], ◌∷◌, ◌++◌, length, Option, Some, Err};
+ghost use Rattle.std.specs.Prelude.{IfOk, OnErr, OnOk, IsSome, true, false, slice_get, slice_set};
 ghost use Rattle.urpf_base.specs.Faults.{CountsFault};
-ghost use Rattle.urpf_base.specs.Lists.{Has};
-ghost use Rattle.adj_rib.specs.Routes.{prefixes_of};
-ghost use Rattle.control_core.specs.Controls.{IsOpened, KeepsPublished, Publishes};
-ghost use Rattle.control_core.specs.Pulls.{Pull};
+ghost use Rattle.feed_io.specs.Events.{Event};
+ghost use Rattle.report_text.specs.Lines.{summary_line};
+ghost use Rattle.router_config.specs.Edits.{target};
+ghost use Rattle.router_config.specs.Kinds.{kind_in};
+ghost use Rattle.router_config.specs.Settings.{Settings};
+ghost use Rattle.router_config.specs.declared.edits.Edit.{Edit};
+ghost use Rattle.rpf_plain.specs.Engine.{new_engine};
+ghost use Rattle.rpf_plain.specs.World.{IsConfigured, roles_of};
+ghost use Rattle.session_fsm.specs.declared.items.Effect.{Effect};
+ghost use Rattle.control_core.specs.Controls.{ControlStandsFor, CountsOne, Edits, EditsRoles, IsOpened, IsVerdictNow};
+ghost use Rattle.control_core.specs.Controls.{KeepsKinds, KeepsPublished, Publishes, PublishesDifference, PullsOne};
+ghost use Rattle.control_core.specs.Controls.{goes_on, route_count};
+ghost use Rattle.control_core.specs.History.{StandsFor};
+ghost use Rattle.control_core.specs.Judging.{JudgesBy};
+ghost use Rattle.control_core.specs.States.{PeerState};
+ghost use Rattle.control_core.specs.Worlds.{Course, last_number};
 
 use crate::control::Control;
-use crate::differences::came_or_went;
+use crate::counted_engine::CountedEngine;
 use crate::limits::{ITEM_LIMIT, Limits, OCTET_LIMIT, RunFault};
-use crate::peering::Peering;
-use crate::pulling::pull_items;
-use adj_rib::AdjRib;
+use crate::marks::Marks;
+use crate::opening::{first_mark, peers_of};
+use crate::published::PublishedCells;
+use crate::publishing::publish_cells;
+use crate::pulling::{pull_one, wants_memory};
 use feed_io::Feed;
+use report_text::put_summary;
+use router_config::{Config, Edit};
+use rpf_plain::SetEngine;
 use std::alloc::Global;
-use urpf_base::{Addr, OutOfMemory, SessionConfig, Sink, Verdict};
+use urpf_base::{Addr, IfaceId, Line, OutOfMemory, Sink, Verdict};
 
-/// The number of the one session.
-const FIRST_SESSION: u32 = 0;
-
-impl Control {
-    /// Session 0, which took no item, and no routes, which are published as number 0.
-    pub fn new(alloc: Global, config: SessionConfig, limits: Limits) -> Result<Control, OutOfMemory>
+impl<E: SetEngine> Control<E> {
+    /// The sessions of the configuration, which took no item, over an engine that has the configured
+    /// roles and nothing else. Mark 0 is made.
+    pub fn new(
+        alloc: Global,
+        engine: E,
+        config: Config,
+        limits: Limits,
+    ) -> Result<Control<E>, OutOfMemory>
+        requires engine { E.state engine ≡ new_engine (roles_of config.interfaces) }
         requires items { limits.items ≤ ITEM_LIMIT }
         requires octets { limits.octets ≤ OCTET_LIMIT }
         ensures { IfOk result (IsOpened config limits) }
     {
+        let peers = peers_of(alloc, &config)?;
+        let mut marks = Marks::new(alloc);
+        marks.push(first_mark(alloc, config.sessions())?)?;
+        let kinds = config.kinds()?;
+        let published = PublishedCells::new(alloc, config.kinds()?);
         Ok(Control {
-            peering: Peering::new(alloc, FIRST_SESSION, config),
-            published: AdjRib::new(alloc),
-            number: 0,
+            alloc,
+            sets: CountedEngine::new(engine),
+            peers,
+            kinds,
+            edits: 0,
+            marks,
+            published,
             limits,
             exhausted: false,
         })
     }
 
-    /// Takes the next `count` items of the session, or all, and offers the line of each reset and
-    /// that of the end to the sink. A pull after the end does nothing, and neither does one after want
-    /// of memory.
+    /// Takes the next `count` items of a session, or all, and offers the line of each reset and that of
+    /// the end to the sink. A pull after the end does nothing, and neither does one after want of
+    /// memory. No other session changes, and no other feed is asked.
     pub fn pull<F: Feed, K: Sink>(
         &mut self,
-        feed: &mut F,
+        feeds: &mut Vec<F>,
+        session: u32,
         count: Option<u64>,
         out: &mut K,
     ) -> Result<(), RunFault>
+        requires session { session < length self.old.peers }
+        requires slots { length feeds.old.items ≡ length self.old.peers }
         ensures pull { self.old.exhausted ≡ false
-            → Pull count self.old.limits (F.left feed.old) (F.left feed.new)
-            (K.held out.old) (K.held out.new) result self.old.peer self.new.peer }
-        ensures kept { KeepsPublished self.old self.new }
-        ensures feed { CountsFault (result ≡ Err (RunFault.ReadFault self.old.peer.number))
-            (F.faults feed.old) (F.faults feed.new) }
+            → PullsOne F.left session count self.old.limits feeds.old.items feeds.new.items
+            (K.held out.old) (K.held out.new) result self.old.peers self.new.peers }
+        ensures stands { (opening : Settings) (edits : List Edit) (courses : List Course) (course : Course)
+            (peer : PeerState) (gave : List Event) (more : List Effect)
+            → ControlStandsFor opening edits courses self.old
+            → slice_get courses session ≡ Some course → slice_get self.new.peers session ≡ Some peer
+            → StandsFor (course.events ++ gave) (course.effects ++ more) peer
+            → ControlStandsFor opening edits (slice_set courses session (goes_on course gave more)) self.new }
+        ensures published { KeepsPublished self.old self.new }
+        ensures kinds { KeepsKinds self.old self.new }
+        ensures feed { CountsOne F.faults session (result ≡ Err (RunFault.ReadFault session))
+            feeds.old.items feeds.new.items }
         ensures sink { CountsFault (result ≡ Err RunFault.WriteFault)
             (K.faults out.old) (K.faults out.new) }
-        // After the end nothing is done.
-        ensures after { self.old.exhausted ≡ false → self.old.peer.ended ≡ true
-            → (result ≡ Ok tt) × (self.new ≡ self.old) × (feed.new ≡ feed.old) × (out.new ≡ out.old) }
         // Want of memory stays, and nothing is done then.
         ensures memory { self.new.exhausted ≡ true ↔ result ≡ Err RunFault.OutOfMemory }
         ensures exhausted { self.old.exhausted ≡ true → (result ≡ Err RunFault.OutOfMemory)
-            × (self.new ≡ self.old) × (feed.new ≡ feed.old) × (out.new ≡ out.old) }
+            × (self.new ≡ self.old) × (feeds.new.items ≡ feeds.old.items) × (out.new ≡ out.old) }
     {
         if self.exhausted {
             return Err(RunFault::OutOfMemory);
         }
-        if self.peering.ended {
-            return Ok(());
-        }
-        let result = pull_items(&mut self.peering, &self.limits, feed, count, out);
-        if let Err(RunFault::OutOfMemory) = result {
-            self.exhausted = true;
-        }
+        let result = pull_one(
+            self.alloc,
+            &mut self.peers,
+            &mut self.sets,
+            &self.limits,
+            feeds,
+            session,
+            count,
+            out,
+        );
+        self.exhausted = wants_memory(&result);
         result
     }
 
-    /// Publishes the routes of now under the next number. Answers that number, and how many prefixes
-    /// came or went since the last publication.
-    pub fn publish(&mut self) -> Result<(u64, u64), OutOfMemory>
-        requires { self.old.number < 2 ^ 64 - 1 }
-        ensures ok { IfOk result (Publishes self.old self.new) }
+    /// Gives an interface another role or mode. It counts as an edit also where it changes nothing.
+    pub fn edit(&mut self, edit: &Edit) -> Result<(), OutOfMemory>
+        requires few { self.old.edits < 2 ^ 32 }
+        requires configured { IsSome (kind_in self.old.kinds (target edit.now)) }
+        ensures ok { OnOk result (Edits edit.now self.old self.new) }
+        ensures stands { OnOk result ((opening : Settings) (edits : List Edit) (courses : List Course)
+            → ControlStandsFor opening edits courses self.old
+            → ControlStandsFor opening (edits ++ edit.now ∷ []) courses self.new) }
         ensures able { OnOk result ((self.old.exhausted ≡ false) × (self.new.exhausted ≡ false)) }
         ensures err { OnErr result (self.new.exhausted ≡ true) }
-        ensures unpublished { OnErr result (KeepsPublished self.old self.new) }
-        ensures peer { OnErr result (self.new.peer ≡ self.old.peer) }
+        ensures published { OnErr result (KeepsPublished self.old self.new) }
+        ensures kinds { OnErr result (KeepsKinds self.old self.new) }
+        ensures peers { OnErr result (self.new.peers ≡ self.old.peers) }
     {
         if self.exhausted {
             return Err(OutOfMemory);
         }
-        let Ok(next) = self.peering.rib.copied() else {
+        let Ok(()) = edit_role(&mut self.sets, edit) else {
             self.exhausted = true;
             return Err(OutOfMemory);
         };
-        let cells = came_or_went(&self.published, &next);
-        self.published = next;
-        self.number += 1;
-        Ok((self.number, cells))
+        self.kinds.apply(edit);
+        self.edits += 1;
+        Ok(())
+    }
+
+    /// Publishes the cells of now under the next number. Answers that number, and of how many prefixes
+    /// the cell changed since the last publication.
+    pub fn publish(&mut self) -> Result<(u64, u64), OutOfMemory>
+        requires { last_number self.old.marks < 2 ^ 32 }
+        ensures ok { IfOk result (Publishes self.old self.new) }
+        ensures difference { (opening : Settings) (edits : List Edit) (courses : List Course)
+            → ControlStandsFor opening edits courses self.old
+            → IfOk result (PublishesDifference opening edits courses self.old self.new) }
+        ensures stands { OnOk result ((opening : Settings) (edits : List Edit) (courses : List Course)
+            → ControlStandsFor opening edits courses self.old
+            → ControlStandsFor opening edits courses self.new) }
+        ensures able { OnOk result ((self.old.exhausted ≡ false) × (self.new.exhausted ≡ false)) }
+        ensures err { OnErr result (self.new.exhausted ≡ true) }
+        ensures published { OnErr result (KeepsPublished self.old self.new) }
+        ensures kinds { OnErr result (KeepsKinds self.old self.new) }
+        ensures peers { OnErr result (self.new.peers ≡ self.old.peers) }
+    {
+        if self.exhausted {
+            return Err(OutOfMemory);
+        }
+        let published = publish_cells(
+            self.alloc,
+            &self.peers,
+            self.edits,
+            &self.kinds,
+            &mut self.sets,
+            &mut self.marks,
+            &mut self.published,
+        );
+        let Ok(answer) = published else {
+            self.exhausted = true;
+            return Err(OutOfMemory);
+        };
+        Ok(answer)
+    }
+
+    /// The marks of the publications, mark 0 first.
+    pub fn marks(&self) -> &Marks
+        ensures { result.now ≡ self.now.marks }
+    {
+        &self.marks
     }
 
     /// The number of the last publication.
     pub fn number(&self) -> u64
-        ensures { result ≡ self.now.number }
+        ensures { result ≡ last_number self.now.marks }
     {
-        self.number
+        self.marks.last_number()
     }
 
-    /// How many items the session took.
-    pub fn items(&self) -> u64
-        ensures { result ≡ self.now.peer.session.items }
+    /// The verdict of the last publication on an address that comes in on this interface.
+    pub fn judge(&self, iface: IfaceId, addr: &Addr) -> Verdict
+        ensures cells { JudgesBy self.now.published iface addr.now result }
+        ensures sets { (opening : Settings) (edits : List Edit) (courses : List Course)
+            (stands : ControlStandsFor opening edits courses self.now)
+            → IsVerdictNow self.now stands.marked iface addr.now result }
     {
-        self.peering.session.items()
+        self.published.judge(iface, addr)
     }
 
-    /// Whether a prefix of the last publication covers the address.
-    pub fn judge(&self, addr: &Addr) -> Verdict
-        ensures pass { result ≡ Verdict.Pass
-            ↔ ((p : Block) × Has (prefixes_of self.now.published) p × Covers p addr.now) }
-        ensures either { (result ≡ Verdict.Pass) ⊎ (result ≡ Verdict.Drop) }
+    /// Appends the line of the routes that the sessions have now to an empty line. There are no pairs
+    /// yet.
+    pub fn put_summary(&self, to: &mut Line)
+        requires { to.old ≡ [] }
+        ensures { to.new ≡ summary_line (route_count self.now.peers) 0 }
     {
-        if self.published.any_covers(addr) {
-            return Verdict::Pass;
-        }
-        Verdict::Drop
+        put_summary(self.sets.rows(), 0, to);
+    }
+}
+
+/// Gives the interface of the edit its role. Nothing is changed where the edit names a mode, and where
+/// memory is refused.
+fn edit_role<E: SetEngine>(sets: &mut CountedEngine<E>, edit: &Edit) -> Result<(), OutOfMemory>
+    requires { IsConfigured sets.old.world.roles (target edit.now) }
+    ensures ok { OnOk result (EditsRoles edit.now sets.old sets.new) }
+    ensures err { OnErr result (sets.new ≡ sets.old) }
+{
+    match *edit {
+        Edit::Role(iface, role) => sets.set_role(iface, role),
+        Edit::Mode(_, _) => Ok(()),
     }
 }

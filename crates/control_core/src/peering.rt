@@ -1,23 +1,27 @@
 //! One session with its feed: events come in, items are taken of them one by one, and the routes of
-//! the session are changed by each (RFC 4271, sections 3.2 and 8).
-ghost use Rattle.std.specs.Prelude.{◌≡◌, ◌<◌, ◌^◌, ◌≤◌, ◌+◌, List, [], ◌∷◌, ◌++◌, Err, IfErr, length, true, false};
+//! the session and their rows in the engine are changed by each (RFC 4271, sections 3.2 and 8).
+ghost use Rattle.std.specs.Prelude.{◌≡◌, ◌<◌, ◌^◌, ◌≤◌, ◌+◌, List, [], ◌∷◌, ◌++◌};
+ghost use Rattle.std.specs.Prelude.{Err, IfErr, IsOk, length, true, false};
 ghost use Rattle.bgp_wire.specs.Frames.{IsMessage, IsShort, IsFaulty};
 ghost use Rattle.bgp_wire.specs.Header.{type_field};
 ghost use Rattle.bgp_wire.specs.States.{FitsKind, kind_of};
 ghost use Rattle.feed_io.specs.Events.{Event, up, down, elapsed};
 ghost use Rattle.urpf_base.specs.Faults.{CountsFault};
 ghost use Rattle.session_fsm.specs.declared.items.Effect.{Effect};
+ghost use Rattle.control_core.specs.EngineRows.{HasSession, RowsFollow};
 ghost use Rattle.control_core.specs.History.{StandsFor};
 ghost use Rattle.control_core.specs.Peers.{peer_of};
 ghost use Rattle.control_core.specs.TurnParts.{TakesOne, answer_of};
 ghost use Rattle.control_core.specs.Turns.{Counts, HadMemory, IsTurnFault, Turned};
 
+use crate::counted_engine::CountedEngine;
 use crate::item_step::take_item;
 use crate::limits::{Limits, RunFault};
 use crate::reassembly::Reassembly;
 use adj_rib::AdjRib;
 use bgp_wire::{FrameState, MsgKind};
 use feed_io::{Feed, FeedEvent};
+use rpf_plain::SetEngine;
 use session_fsm::{Item, Session};
 use std::alloc::Global;
 use urpf_base::{Failed, OutOfMemory, ResetCause, SessionConfig};
@@ -67,8 +71,15 @@ impl Peering {
     }
 
     /// Takes the next item that the octets held have, or asks the feed for its next event.
-    pub fn turn<F: Feed>(&mut self, feed: &mut F, limits: &Limits) -> Result<Turn, RunFault>
-        requires { self.old.session.items < 2 ^ 63 }
+    pub fn turn<E: SetEngine, F: Feed>(
+        &mut self,
+        alloc: Global,
+        sets: &mut CountedEngine<E>,
+        feed: &mut F,
+        limits: &Limits,
+    ) -> Result<Turn, RunFault>
+        requires counted { self.old.session.items < 2 ^ 63 }
+        requires ready { HasSession self.old.session.config.iface self.old.rib sets.old }
         ensures stands { (events : List Event) (effects : List Effect)
             → StandsFor events effects (peer_of self.old) → HadMemory result
             → Turned events effects (F.left feed.old) (F.left feed.new) result (peer_of self.new) }
@@ -78,42 +89,80 @@ impl Peering {
             (F.faults feed.old) (F.faults feed.new) }
         ensures number { self.new.number ≡ self.old.number }
         ensures config { self.new.session.config ≡ self.old.session.config }
+        ensures rows { RowsFollow self.old.session.config.iface self.old.rib self.new.rib sets.old sets.new }
+        // Where memory is refused nothing is changed.
+        ensures memory { result ≡ Err RunFault.OutOfMemory → peer_of self.new ≡ peer_of self.old }
+        ensures left { result ≡ Err RunFault.OutOfMemory → F.left feed.new ≡ F.left feed.old }
     {
         match self.reassembly.front() {
-            FrameState::Whole(kind) => self.take_message(kind),
-            FrameState::Fault(subcode) => self.take_fault(subcode),
-            FrameState::Partial(part) => self.ask(feed, limits, part),
+            FrameState::Whole(kind) => self.take_message(alloc, sets, kind),
+            FrameState::Fault(subcode) => self.take_fault(alloc, sets, subcode),
+            FrameState::Partial(part) => self.ask(alloc, sets, feed, limits, part),
         }
     }
 
-    /// The message in the framer is taken.
-    fn take_message(&mut self, kind: MsgKind) -> Result<Turn, RunFault>
+    /// The message in the framer is taken. Where memory is refused it stays there.
+    fn take_message<E: SetEngine>(
+        &mut self,
+        alloc: Global,
+        sets: &mut CountedEngine<E>,
+        kind: MsgKind,
+    ) -> Result<Turn, RunFault>
         requires counted { self.old.session.items < 2 ^ 63 }
+        requires ready { HasSession self.old.session.config.iface self.old.rib sets.old }
         requires message { IsMessage self.old.reassembly.framer }
         requires kind { kind ≡ kind_of (type_field self.old.reassembly.framer) }
         requires fits { FitsKind kind (length self.old.reassembly.framer) }
-        ensures { TakesOne [] (peer_of self.old) (peer_of self.new) result }
+        ensures takes { TakesOne [] (peer_of self.old) (peer_of self.new) result }
+        ensures rows { RowsFollow self.old.session.config.iface self.old.rib self.new.rib sets.old sets.new }
     {
         let item = Item::Message(kind, self.reassembly.framer.body());
-        let taken = take_item(&mut self.session, &mut self.rib, item);
-        self.reassembly.framer.next();
-        answer(taken)
+        let taken = take_item(alloc, &mut self.session, &mut self.rib, sets, item);
+        match taken {
+            Ok(reset) => {
+                self.reassembly.framer.next();
+                Ok(Turn::Took(reset))
+            }
+            Err(OutOfMemory) => Err(RunFault::OutOfMemory),
+        }
     }
 
     /// The fault of the header in the framer is taken. What comes behind it is dropped.
-    fn take_fault(&mut self, subcode: u8) -> Result<Turn, RunFault>
+    fn take_fault<E: SetEngine>(
+        &mut self,
+        alloc: Global,
+        sets: &mut CountedEngine<E>,
+        subcode: u8,
+    ) -> Result<Turn, RunFault>
         requires counted { self.old.session.items < 2 ^ 63 }
+        requires ready { HasSession self.old.session.config.iface self.old.rib sets.old }
         requires faulty { IsFaulty self.old.reassembly.framer subcode }
-        ensures { TakesOne [] (peer_of self.old) (peer_of self.new) result }
+        ensures takes { TakesOne [] (peer_of self.old) (peer_of self.new) result }
+        ensures taken { IsOk result }
+        ensures rows { RowsFollow self.old.session.config.iface self.old.rib self.new.rib sets.old sets.new }
     {
-        let taken = take_item(&mut self.session, &mut self.rib, Item::HeaderFault(subcode));
+        let taken = take_item(
+            alloc,
+            &mut self.session,
+            &mut self.rib,
+            sets,
+            Item::HeaderFault(subcode),
+        );
         self.reassembly.stop();
         answer(taken)
     }
 
     /// Asks the feed for its next event. The octets held are a part of a message, of so many octets.
-    fn ask<F: Feed>(&mut self, feed: &mut F, limits: &Limits, part: u16) -> Result<Turn, RunFault>
+    fn ask<E: SetEngine, F: Feed>(
+        &mut self,
+        alloc: Global,
+        sets: &mut CountedEngine<E>,
+        feed: &mut F,
+        limits: &Limits,
+        part: u16,
+    ) -> Result<Turn, RunFault>
         requires counted { self.old.session.items < 2 ^ 63 }
+        requires ready { HasSession self.old.session.config.iface self.old.rib sets.old }
         requires short { IsShort self.old.reassembly.framer }
         requires part { part ≡ length self.old.reassembly.framer }
         requires none { self.old.reassembly.waiting ≡ [] }
@@ -126,16 +175,18 @@ impl Peering {
             (F.faults feed.old) (F.faults feed.new) }
         ensures number { self.new.number ≡ self.old.number }
         ensures config { self.new.session.config ≡ self.old.session.config }
+        ensures rows { RowsFollow self.old.session.config.iface self.old.rib self.new.rib sets.old sets.new }
+        ensures memory { result ≡ Err RunFault.OutOfMemory → ⊥ }
     {
         let room = limits.octets.saturating_sub(self.octets);
         if room == 0 {
             return Err(RunFault::OctetLimit(self.number));
         }
         match self.reassembly.waiting.fill(feed, room) {
-            Ok(FeedEvent::Up) => self.come_up(),
+            Ok(FeedEvent::Up) => self.come_up(alloc, sets),
             Ok(FeedEvent::Octets(count)) => Ok(self.hold(count)),
-            Ok(FeedEvent::Down) => self.go_down(),
-            Ok(FeedEvent::Elapsed(seconds)) => self.pass(seconds),
+            Ok(FeedEvent::Down) => self.go_down(alloc, sets),
+            Ok(FeedEvent::Elapsed(seconds)) => self.pass(alloc, sets, seconds),
             Ok(FeedEvent::End) => {
                 self.ended = true;
                 Ok(Turn::End(u64::from(part)))
@@ -145,35 +196,63 @@ impl Peering {
     }
 
     /// The transport came up.
-    fn come_up(&mut self) -> Result<Turn, RunFault>
+    fn come_up<E: SetEngine>(
+        &mut self,
+        alloc: Global,
+        sets: &mut CountedEngine<E>,
+    ) -> Result<Turn, RunFault>
         requires counted { self.old.session.items < 2 ^ 63 }
+        requires ready { HasSession self.old.session.config.iface self.old.rib sets.old }
         requires short { IsShort self.old.reassembly.framer }
         requires none { self.old.reassembly.waiting ≡ [] }
-        ensures { TakesOne (up ∷ []) (peer_of self.old) (peer_of self.new) result }
+        ensures takes { TakesOne (up ∷ []) (peer_of self.old) (peer_of self.new) result }
+        ensures taken { IsOk result }
+        ensures rows { RowsFollow self.old.session.config.iface self.old.rib self.new.rib sets.old sets.new }
     {
         self.reassembly.begin();
-        answer(take_item(&mut self.session, &mut self.rib, Item::Up))
+        answer(take_item(alloc, &mut self.session, &mut self.rib, sets, Item::Up))
     }
 
     /// The transport went down.
-    fn go_down(&mut self) -> Result<Turn, RunFault>
+    fn go_down<E: SetEngine>(
+        &mut self,
+        alloc: Global,
+        sets: &mut CountedEngine<E>,
+    ) -> Result<Turn, RunFault>
         requires counted { self.old.session.items < 2 ^ 63 }
+        requires ready { HasSession self.old.session.config.iface self.old.rib sets.old }
         requires short { IsShort self.old.reassembly.framer }
         requires none { self.old.reassembly.waiting ≡ [] }
-        ensures { TakesOne (down ∷ []) (peer_of self.old) (peer_of self.new) result }
+        ensures takes { TakesOne (down ∷ []) (peer_of self.old) (peer_of self.new) result }
+        ensures taken { IsOk result }
+        ensures rows { RowsFollow self.old.session.config.iface self.old.rib self.new.rib sets.old sets.new }
     {
         self.reassembly.stop();
-        answer(take_item(&mut self.session, &mut self.rib, Item::Down))
+        answer(take_item(alloc, &mut self.session, &mut self.rib, sets, Item::Down))
     }
 
     /// So many seconds passed.
-    fn pass(&mut self, seconds: u32) -> Result<Turn, RunFault>
+    fn pass<E: SetEngine>(
+        &mut self,
+        alloc: Global,
+        sets: &mut CountedEngine<E>,
+        seconds: u32,
+    ) -> Result<Turn, RunFault>
         requires counted { self.old.session.items < 2 ^ 63 }
+        requires ready { HasSession self.old.session.config.iface self.old.rib sets.old }
         requires short { IsShort self.old.reassembly.framer }
         requires none { self.old.reassembly.waiting ≡ [] }
-        ensures { TakesOne (elapsed seconds ∷ []) (peer_of self.old) (peer_of self.new) result }
+        ensures takes { TakesOne (elapsed seconds ∷ []) (peer_of self.old) (peer_of self.new) result }
+        ensures taken { IsOk result }
+        ensures rows { RowsFollow self.old.session.config.iface self.old.rib self.new.rib sets.old sets.new }
     {
-        answer(take_item(&mut self.session, &mut self.rib, Item::Elapsed(seconds)))
+        answer(take_item(
+            alloc,
+            &mut self.session,
+            &mut self.rib,
+            sets,
+            Item::Elapsed(seconds),
+        ))
     }
 
     /// Counts so many octets that came, and drops them where they belong to no connection.

@@ -1,23 +1,33 @@
 //! A pull: items of a session are taken of its feed, one after the other, and the line of each reset
 //! and that of the end are offered to a sink.
-ghost use Rattle.std.specs.Prelude.{◌≡◌, ◌≤◌, ℕ, Err, IfErr, OnErr, OnOk, length, take, false};
+ghost use Rattle.std.specs.Prelude.{◌≡◌, ◌<◌, ◌≤◌, ◌↔◌, ℕ, Err, IfErr, List, OnErr, OnOk, length, map, take, vec_len};
+ghost use Rattle.std.specs.Prelude.{false, true};
 ghost use Rattle.std.specs.Io.KnownBytes.{Appends};
 ghost use Rattle.urpf_base.specs.Faults.{CountsFault, HasCause};
+ghost use Rattle.urpf_base.specs.declared.kinds.Kind.{Kind};
 ghost use Rattle.report_text.specs.Lines.{end_line};
+ghost use Rattle.control_core.specs.Controls.{CountsOne, PullsOne};
+ghost use Rattle.control_core.specs.EngineRows.{HasSession, RowsFollow};
+ghost use Rattle.control_core.specs.Kept.{IsKept};
 ghost use Rattle.control_core.specs.Peers.{peer_of};
 ghost use Rattle.control_core.specs.Pulls.{Pull, reset_text};
 ghost use Rattle.control_core.specs.Pulls as pulls;
 
+use crate::counted_engine::CountedEngine;
 use crate::limits::{ITEM_LIMIT, Limits, RunFault};
 use crate::offering::offer;
 use crate::peering::{Peering, Turn};
 use feed_io::Feed;
 use report_text::{put_end, put_reset};
+use rpf_plain::SetEngine;
+use std::alloc::Global;
 use urpf_base::{Line, ResetCause, Sink};
 
 /// Takes the next `count` items of the session, or all, within the limits.
-pub fn pull_items<F: Feed, K: Sink>(
+pub fn pull_items<E: SetEngine, F: Feed, K: Sink>(
+    alloc: Global,
     peering: &mut Peering,
+    sets: &mut CountedEngine<E>,
     limits: &Limits,
     feed: &mut F,
     count: Option<u64>,
@@ -25,12 +35,14 @@ pub fn pull_items<F: Feed, K: Sink>(
 ) -> Result<(), RunFault>
     requires small { limits.now.items ≤ ITEM_LIMIT }
     requires unmet { peering.old.ended ≡ false }
+    requires ready { HasSession peering.old.session.config.iface peering.old.rib sets.old }
     ensures pull { Pull count limits.now (F.left feed.old) (F.left feed.new)
         (K.held out.old) (K.held out.new) result (peer_of peering.old) (peer_of peering.new) }
     ensures feed { CountsFault (result ≡ Err (RunFault.ReadFault peering.old.number))
         (F.faults feed.old) (F.faults feed.new) }
     ensures sink { CountsFault (result ≡ Err RunFault.WriteFault)
         (K.faults out.old) (K.faults out.new) }
+    ensures rows { RowsFollow peering.old.session.config.iface peering.old.rib peering.new.rib sets.old sets.new }
 {
     let session = peering.number;
     let begun = peering.session.items();
@@ -38,7 +50,7 @@ pub fn pull_items<F: Feed, K: Sink>(
         if limits.items <= peering.session.items() {
             return Err(RunFault::ItemLimit(session));
         }
-        match peering.turn(feed, limits) {
+        match peering.turn(alloc, sets, feed, limits) {
             Ok(Turn::Took(reset)) => {
                 if let Err(fault) = tell_reset(session, peering.session.items(), reset, out) {
                     return Err(fault);
@@ -50,6 +62,52 @@ pub fn pull_items<F: Feed, K: Sink>(
         }
     }
     Ok(())
+}
+
+/// Takes the next items of one session of several. A session whose feed came to its end is left alone.
+pub fn pull_one<E: SetEngine, F: Feed, K: Sink>(
+    alloc: Global,
+    peers: &mut Vec<Peering>,
+    sets: &mut CountedEngine<E>,
+    limits: &Limits,
+    feeds: &mut Vec<F>,
+    session: u32,
+    count: Option<u64>,
+    out: &mut K,
+) -> Result<(), RunFault>
+    requires session { session < vec_len peers.old }
+    requires slots { vec_len feeds.old ≡ vec_len peers.old }
+    requires kept { (kinds : List (ℕ × Kind)) × IsKept (map peer_of peers.old.items) kinds sets.old limits.now }
+    ensures pull { PullsOne F.left session count limits.now feeds.old.items feeds.new.items
+        (K.held out.old) (K.held out.new) result (map peer_of peers.old.items) (map peer_of peers.new.items) }
+    ensures feed { CountsOne F.faults session (result ≡ Err (RunFault.ReadFault session))
+        feeds.old.items feeds.new.items }
+    ensures sink { CountsFault (result ≡ Err RunFault.WriteFault)
+        (K.faults out.old) (K.faults out.new) }
+    ensures kept { (kinds : List (ℕ × Kind)) → IsKept (map peer_of peers.old.items) kinds sets.old limits.now
+        → IsKept (map peer_of peers.new.items) kinds sets.new limits.now }
+    ensures base { sets.new.base ≡ sets.old.base }
+{
+    let place = session as usize;
+    if peers[place].ended {
+        return Ok(());
+    }
+    pull_items(
+        alloc,
+        &mut peers[place],
+        sets,
+        limits,
+        &mut feeds[place],
+        count,
+        out,
+    )
+}
+
+/// Whether a pull stopped for want of memory.
+pub fn wants_memory(pulled: &Result<(), RunFault>) -> bool
+    ensures { result ≡ true ↔ pulled.now ≡ Err RunFault.OutOfMemory }
+{
+    matches!(pulled, Err(RunFault::OutOfMemory))
 }
 
 /// Whether a pull asks for more items than so many.

@@ -74,6 +74,17 @@ impl Session {
         ResetCause::Fault(CEASE, MAXIMUM_PREFIXES_REACHED)
     }
 
+    /// The same session once more.
+    pub fn copied(&self) -> Session
+        ensures { result ≡ self.now }
+    {
+        Session {
+            config: self.config,
+            state: self.state,
+            items: self.items,
+        }
+    }
+
     /// How many items the session took.
     pub fn items(&self) -> u64
         ensures { result ≡ self.now.items }

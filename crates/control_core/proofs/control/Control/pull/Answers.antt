@@ -1,7 +1,33 @@
-use Rattle.control_core.specs.Peers.{peer_of}
-use Rattle.control_core.proofs.PullEnds.{pull_after_end}
+use Rattle.std.proofs.Common.{refl, sym, subst, arith}
+use Rattle.control_core.specs.Controls.{ControlStandsFor}
+use Rattle.control_core.specs.Kept.{IsKept}
+use Rattle.control_core.specs.States.{ControlState}
+use Rattle.control_core.proofs.FaultCounts.{counts_none}
+use Rattle.control_core.proofs.Places.{set_same, some_at}
+use Rattle.control_core.proofs.StandsPulled.{stands_by_pull, stands_still}
 use Rattle.control_core.proofs.control.Control.pull.Goals as goal
 
-pub returns-then-self-2-clause-pull : goal.returns-then-self-2-clause-pull
-returns-then-self-2-clause-pull g c =
-    rw (← c.self.view_is) (λ able. pull_after_end c.args.count _ _ _ (peer_of c.self.inside.peering) c.if-self-2.true)
+pub returns-then-self-clause-stands : goal.returns-then-self-clause-stands
+returns-then-self-clause-stands g c = λ opening edits courses course peer gave more stands got there later.
+    stands_still c.args.session opening edits courses course peer gave more c.args.self.now stands
+    (subst (λ (v : ControlState). IsKept v.peers v.kinds v.engine v.limits) c.self.view_is c.self.invariant) got there
+    later
+
+pub returns-then-self-clause-feed : goal.returns-then-self-clause-feed
+returns-then-self-clause-feed g c =
+    let feed = some_at c.args.feeds.now.items c.args.session (omega (arith, c.requires.session, c.requires.slots)) in
+    record {
+      feed = feed.0;
+      had = feed.1;
+      next = feed.0;
+      has = set_same c.args.feeds.now.items c.args.session feed.0 feed.1;
+      counts = counts_none _ _ refl (λ clash. cc);
+    }
+
+pub returns-clause-stands : goal.returns-clause-stands
+returns-clause-stands g c = λ opening edits courses course peer gave more stands got there later.
+    stands_by_pull opening edits courses course peer gave more _ _
+    (subst (λ (v : ControlState). ControlStandsFor opening edits courses v) (sym c.self.view_is) stands)
+    c.pull_one-result.ensures.pull
+    (record { kinds = refl; edits = refl; marks = refl; published = refl; base = c.pull_one-result.ensures.base })
+    (c.pull_one-result.ensures.kept c.self.inside.kinds c.self.invariant) got there later

@@ -19,13 +19,13 @@ pub returns-in-Ok-Up-clause-stands : goal.returns-in-Ok-Up-clause-stands
 returns-in-Ok-Up-clause-stands g c = λ events effects stands memory.
     let fills = rw c.in-Ok-Up.field-0-is at c.in-Ok-Up.ensures.fills in
     turned_one events (up ∷ []) effects (g.F.Feed.left c.args.feed.now) (g.F.Feed.left c.fill.new.feed)
-    c.come_up.result _ (peer_of c.come_up.new.self) fills.gave c.come_up.ensures
+    c.come_up.result _ (peer_of c.come_up.new.self) fills.gave c.come_up.ensures.takes
     (stands_unfilled events effects c.args.self.now _ stands c.requires.none refl refl refl refl fills.has refl) memory
 
 pub returns-in-Ok-Up-clause-counts : goal.returns-in-Ok-Up-clause-counts
 returns-in-Ok-Up-clause-counts g c =
     counts_one (up ∷ []) c.come_up.result (peer_of c.args.self.now) _ (peer_of c.come_up.new.self) c.args.limits.now
-    refl refl refl c.come_up.ensures
+    refl refl refl c.come_up.ensures.takes
 
 pub returns-in-Ok-Octets-clause-stands : goal.returns-in-Ok-Octets-clause-stands
 returns-in-Ok-Octets-clause-stands g c = λ events effects stands memory.
@@ -43,26 +43,27 @@ pub returns-in-Ok-Down-clause-stands : goal.returns-in-Ok-Down-clause-stands
 returns-in-Ok-Down-clause-stands g c = λ events effects stands memory.
     let fills = rw c.in-Ok-Down.field-0-is at c.in-Ok-Down.ensures.fills in
     turned_one events (down ∷ []) effects (g.F.Feed.left c.args.feed.now) (g.F.Feed.left c.fill.new.feed)
-    c.go_down.result _ (peer_of c.go_down.new.self) fills.gave c.go_down.ensures
+    c.go_down.result _ (peer_of c.go_down.new.self) fills.gave c.go_down.ensures.takes
     (stands_unfilled events effects c.args.self.now _ stands c.requires.none refl refl refl refl fills.has refl) memory
 
 pub returns-in-Ok-Down-clause-counts : goal.returns-in-Ok-Down-clause-counts
 returns-in-Ok-Down-clause-counts g c =
     counts_one (down ∷ []) c.go_down.result (peer_of c.args.self.now) _ (peer_of c.go_down.new.self) c.args.limits.now
-    refl refl refl c.go_down.ensures
+    refl refl refl c.go_down.ensures.takes
 
 pub returns-in-Ok-Elapsed-clause-stands : goal.returns-in-Ok-Elapsed-clause-stands
 returns-in-Ok-Elapsed-clause-stands g c = λ events effects stands memory.
     let fills = rw c.in-Ok-Elapsed.field-0-is at c.in-Ok-Elapsed.ensures.fills in
-    turned_one events (elapsed c.in-Ok-Elapsed.seconds ∷ []) effects (g.F.Feed.left c.args.feed.now)
-    (g.F.Feed.left c.fill.new.feed) c.pass.result _ (peer_of c.pass.new.self) fills.gave c.pass.ensures
+    turned_one events (elapsed c.in-Ok-Elapsed.seconds ∷ []) effects
+    (g.F.Feed.left c.args.feed.now) (g.F.Feed.left c.fill.new.feed)
+    c.pass.result _ (peer_of c.pass.new.self) fills.gave c.pass.ensures.takes
     (stands_unfilled events effects c.args.self.now _ stands c.requires.none refl refl refl refl fills.has refl) memory
 
 pub returns-in-Ok-Elapsed-clause-counts : goal.returns-in-Ok-Elapsed-clause-counts
 returns-in-Ok-Elapsed-clause-counts g c =
-    counts_one (elapsed c.in-Ok-Elapsed.seconds ∷ []) c.pass.result (peer_of c.args.self.now) _
-    (peer_of c.pass.new.self)
-    c.args.limits.now refl refl refl c.pass.ensures
+    counts_one (elapsed c.in-Ok-Elapsed.seconds ∷ []) c.pass.result
+    (peer_of c.args.self.now) _ (peer_of c.pass.new.self) c.args.limits.now
+    refl refl refl c.pass.ensures.takes
 
 pub returns-in-Ok-End-clause-stands : goal.returns-in-Ok-End-clause-stands
 returns-in-Ok-End-clause-stands g c = λ events effects stands memory.

@@ -1,0 +1,82 @@
+-- What a control stands for goes on where one of its sessions is pulled.
+use Rattle.std.proofs.Common.{◌≡◌, ◌∙◌, ℕ, ◌≤◌, List, ◌++◌, Option, Some, None, Result, ap, arith, refl, sym, subst}
+use Rattle.std.specs.Prelude.{slice_get, slice_set}
+use Rattle.feed_io.specs.Events.{Event}
+use Rattle.router_config.specs.Settings.{Settings}
+use Rattle.router_config.specs.declared.edits.Edit.{Edit}
+use Rattle.session_fsm.specs.declared.items.Effect.{Effect}
+use Rattle.control_core.specs.declared.limits.Limits.{Limits}
+use Rattle.control_core.specs.declared.limits.RunFault.{RunFault}
+use Rattle.control_core.specs.Controls.{ControlStandsFor, PullsOne, goes_on}
+use Rattle.control_core.specs.History.{StandsFor}
+use Rattle.control_core.specs.Kept.{IsKept}
+use Rattle.control_core.specs.Pulls.{TakesAtMost}
+use Rattle.control_core.specs.States.{ControlState, PeerState}
+use Rattle.control_core.specs.Worlds.{Course}
+use Rattle.control_core.proofs.Places.{get_set, set_same, some_one}
+use Rattle.control_core.proofs.Standing.{stands_pulled}
+
+-- all but the sessions and their rows is as it was
+pub record KeepsRest (old new : ControlState) : Type 0 where
+  pub kinds : new.kinds ≡ old.kinds
+  pub edits : new.edits ≡ old.edits
+  pub marks : new.marks ≡ old.marks
+  pub published : new.published ≡ old.published
+  pub base : new.engine.base ≡ old.engine.base
+
+-- a pull takes no item back
+no_fewer : (count : Option ℕ) (old new : PeerState) → TakesAtMost count old new → old.session.items ≤ new.session.items
+no_fewer None old new most = most
+no_fewer (Some count) old new most = most.0
+
+-- a session was pulled
+pub stands_by_pull : {F : Type 0} {left : F → Option (List Event)} {session : ℕ} {count : Option ℕ} {limits : Limits}
+    {old_feeds new_feeds : List F} {old_held new_held : Option (List ℕ)} {result : Result (Unit {0}) RunFault}
+    (opening : Settings) (edits : List Edit) (courses : List Course) (course : Course) (peer : PeerState)
+    (gave : List Event) (more : List Effect) (old new : ControlState) → ControlStandsFor opening edits courses old
+    → PullsOne left session count limits old_feeds new_feeds old_held new_held result old.peers new.peers
+    → KeepsRest old new → IsKept new.peers new.kinds new.engine new.limits
+    → slice_get courses session ≡ Some course → slice_get new.peers session ≡ Some peer
+    → StandsFor (course.events ++ gave) (course.effects ++ more) peer
+    → ControlStandsFor opening edits (slice_set courses session (goes_on course gave more)) new
+stands_by_pull {session = session} {count = count} opening edits courses course peer gave more old new stands pulled
+    rest kept got there later =
+    let same : pulled.later ≡ peer = some_one pulled.later peer
+    (sym (get_set old.peers session pulled.peer pulled.later pulled.was)
+    ∙ ap (λ (ps : List PeerState). slice_get ps session) (sym pulled.is) ∙ there) in
+    stands_pulled opening edits courses session course gave more pulled.peer pulled.later old new stands
+    (record {
+      was = pulled.was;
+      peers = pulled.is;
+      config = pulled.pull.config;
+      more_items = no_fewer count pulled.peer pulled.later pulled.pull.most;
+      kinds = rest.kinds;
+      edits = rest.edits;
+      marks = rest.marks;
+      published = rest.published;
+      base = rest.base;
+    })
+    kept got (subst (StandsFor (course.events ++ gave) (course.effects ++ more)) (sym same) later)
+
+-- nothing was done
+pub stands_still : (session : ℕ) (opening : Settings) (edits : List Edit) (courses : List Course) (course : Course)
+    (peer : PeerState) (gave : List Event) (more : List Effect) (control : ControlState)
+    → ControlStandsFor opening edits courses control
+    → IsKept control.peers control.kinds control.engine control.limits
+    → slice_get courses session ≡ Some course → slice_get control.peers session ≡ Some peer
+    → StandsFor (course.events ++ gave) (course.effects ++ more) peer
+    → ControlStandsFor opening edits (slice_set courses session (goes_on course gave more)) control
+stands_still session opening edits courses course peer gave more control stands kept got there later =
+    stands_pulled opening edits courses session course gave more peer peer control control stands
+    (record {
+      was = there;
+      peers = set_same control.peers session peer there;
+      config = refl;
+      more_items = omega arith;
+      kinds = refl;
+      edits = refl;
+      marks = refl;
+      published = refl;
+      base = refl;
+    })
+    kept got later

@@ -1,0 +1,99 @@
+//! An engine with the number of its rows, so that it is never asked to take more than it may have.
+ghost use Rattle.std.specs.Prelude.{◌≡◌, [], OnOk, OnErr, IfOk, length};
+ghost use Rattle.urpf_base.specs.Lists.{Has};
+ghost use Rattle.rpf_plain.specs.Engine.{AddsRow, RemovesRow, SetsRole, IsDrained};
+ghost use Rattle.rpf_plain.specs.Cells.{AreChanges};
+ghost use Rattle.rpf_plain.specs.Rows.{row_of};
+ghost use Rattle.rpf_plain.specs.World.{IsConfigured};
+
+use rpf_plain::SetEngine;
+use std::marker::Model;
+use urpf_base::{Changes, IfaceId, Origin, OutOfMemory, Prefix, Role};
+
+/// The most rows that an engine is given: one less than 2^40.
+const ROWS_MOST: u64 = 0xFF_FFFF_FFFF;
+
+/// An engine, and how many rows it has. Contracts see what they see of the engine.
+#[derive(Drop)]
+pub struct CountedEngine<E: SetEngine> {
+    engine: E,
+    rows: u64,
+}
+
+impl<E: SetEngine> Model for CountedEngine<E> {
+    ghost use Rattle.std.specs.Prelude.{◌≡◌, length};
+    ghost use Rattle.std.specs.Coded.{codes};
+    ghost use Rattle.rpf_plain.specs.Engine.{EngineState};
+    ghost use Rattle.control_core.specs.EngineRows.{cells_code};
+
+    ghost Value = { EngineState };
+
+    ghost coded = { Prim.hlevel (codes, cells_code) };
+
+    ghost view = { λ c. E.state c.engine };
+
+    ghost invariant = { λ c. c.rows ≡ length (E.state c.engine).world.rows };
+}
+
+impl<E: SetEngine> CountedEngine<E> {
+    /// An engine that has no rows.
+    pub fn new(engine: E) -> CountedEngine<E>
+        requires { (E.state engine).world.rows ≡ [] }
+        ensures { result ≡ E.state engine }
+    {
+        CountedEngine { engine, rows: 0 }
+    }
+
+    /// How many rows there are.
+    pub fn rows(&self) -> u64
+        ensures { result ≡ length self.now.world.rows }
+    {
+        self.rows
+    }
+
+    /// Adds one row. Where memory is refused, or there are 2^40 - 1 rows, nothing is changed.
+    pub fn add_row(
+        &mut self,
+        iface: IfaceId,
+        prefix: Prefix,
+        origin: Origin,
+    ) -> Result<(), OutOfMemory>
+        requires { IsConfigured self.old.world.roles iface }
+        ensures ok { OnOk result (AddsRow (row_of iface prefix origin) self.old self.new) }
+        ensures err { OnErr result (self.new ≡ self.old) }
+    {
+        if self.rows >= ROWS_MOST {
+            return Err(OutOfMemory);
+        }
+        self.engine.add_row(iface, prefix, origin)?;
+        self.rows += 1;
+        Ok(())
+    }
+
+    /// Takes away one such row. It takes no memory.
+    pub fn remove_row(&mut self, iface: IfaceId, prefix: &Prefix, origin: Origin)
+        requires { Has self.old.world.rows (row_of iface prefix.now origin) }
+        ensures { RemovesRow (row_of iface prefix.now origin) self.old self.new }
+    {
+        self.engine.remove_row(iface, prefix, origin);
+        self.rows -= 1;
+    }
+
+    /// Gives an interface this role.
+    pub fn set_role(&mut self, iface: IfaceId, role: Role) -> Result<(), OutOfMemory>
+        requires { IsConfigured self.old.world.roles iface }
+        ensures ok { OnOk result (SetsRole iface role self.old self.new) }
+        ensures err { OnErr result (self.new ≡ self.old) }
+    {
+        self.engine.set_role(iface, role)
+    }
+
+    /// The prefixes whose cell is another than at the last drain, each with its cell now.
+    pub fn drain_changes(&mut self) -> Result<Changes, OutOfMemory>
+        ensures changes { IfOk result (AreChanges self.old.world self.old.base) }
+        ensures drained { OnOk result (IsDrained self.old self.new) }
+        ensures err { OnErr result (self.new ≡ self.old) }
+    {
+        self.engine.drain_changes()
+    }
+}

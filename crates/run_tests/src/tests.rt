@@ -1,11 +1,9 @@
-//! What no clause says: worked streams with their lines, worked runs with their texts, how a sink and
-//! a feed are asked, and that calls succeed where memory is ample.
-mod asking;
+//! What no clause says: worked calls with their lines, how a sink and a feed are asked, and that calls
+//! succeed where memory is ample. Whole runs stand as pages in cases/.
 mod checking;
-mod events;
-mod faults;
+mod control;
+mod inputs;
 mod offering;
-mod pulls;
-mod running;
-mod runs;
+mod offline;
+mod rows;
 mod telling;

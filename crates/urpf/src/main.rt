@@ -1,14 +1,18 @@
-//! The program: makes the adapters over files and standard output, calls the command that the words
-//! name, and ends with its status.
+//! The program: makes the adapters over files and standard output that the words name, calls the
+//! command, and ends with its status.
 #![tactic(auto)]
+
+ghost use Rattle.std.specs.Prelude.{◌≡◌, IfOk, length};
 
 use feed_io::{FileSource, OutSink, TraceFeed};
 use std::io::Write;
 use std::process::ExitCode;
 use std::rt::{Env, Files};
 use std::{env, io};
-use urpf_base::{Line, write_all};
-use urpf_cli::{Status, asks_offline, check_one, exit_code, offline_feed, put_status};
+use urpf_base::{Line, OutOfMemory, write_all};
+use urpf_cli::{
+    Command, Status, check_one, exit_code, feed_names, offline, put_status, read_command,
+};
 
 fn main(rt: HostRuntime) -> ExitCode {
     let status = run(&rt);
@@ -16,28 +20,70 @@ fn main(rt: HostRuntime) -> ExitCode {
     ExitCode::from(exit_code(&status))
 }
 
-/// Runs the command that the words ask for. Words that fit no form are refused by `check_one`.
+/// Runs the command that the words ask for.
 fn run<R: AllocGlobal + Env + Files + Print>(rt: &R) -> Status {
     let words = match words(rt) {
         Ok(words) => words,
         Err(status) => return status,
     };
-    let mut out = OutSink::new(io::writer(rt));
-    if asks_offline(&words) {
-        let mut book = FileSource::new(rt, word(&words, 1));
-        let mut feed = TraceFeed::new(FileSource::new(rt, word(&words, 2)));
-        return offline_feed(rt.alloc(), &words, &mut book, &mut feed, &mut out);
+    match read_command(&words) {
+        Some(Command::Check { session, .. }) => check(rt, &words, session),
+        Some(Command::Offline { config, book, .. }) => run_book(rt, &words, config, book),
+        // No file is named then, and `check_one` refuses the words.
+        None => check(rt, &words, ""),
     }
-    let mut session = FileSource::new(rt, word(&words, 1));
-    check_one(rt.alloc(), &words, &mut session, &mut out)
 }
 
-/// The word at this place, or nothing where there are fewer words.
-fn word(words: &[String], place: usize) -> &str {
-    match words.get(place) {
-        Some(word) => word.as_str(),
-        None => "",
+/// `check` over the file of this name.
+fn check<R: AllocGlobal + Files + Print>(rt: &R, words: &[String], session: &str) -> Status {
+    let mut session = FileSource::new(rt, session);
+    check_one(
+        rt.alloc(),
+        words,
+        &mut session,
+        &mut OutSink::new(io::writer(rt)),
+    )
+}
+
+/// `offline` over the files of these names, and the traces that the words name.
+fn run_book<'a, R: AllocGlobal + Files + Print>(
+    rt: &'a R,
+    words: &'a [String],
+    config: &'a str,
+    book: &'a str,
+) -> Status {
+    let mut feeds = match trace_feeds(rt, feed_names(words).sessions) {
+        Ok(feeds) => feeds,
+        Err(OutOfMemory) => return Status::OutOfMemory,
+    };
+    let mut config = FileSource::new(rt, config);
+    let mut book = FileSource::new(rt, book);
+    let mut out = OutSink::new(io::writer(rt));
+    offline(
+        rt.alloc(),
+        words,
+        &mut config,
+        &mut book,
+        &mut feeds,
+        &mut out,
+    )
+}
+
+/// A feed over the trace of each of these names.
+fn trace_feeds<'a, R: AllocGlobal + Files>(
+    rt: &'a R,
+    names: &'a [String],
+) -> Result<Vec<TraceFeed<FileSource<'a, R>>>, OutOfMemory>
+    ensures { IfOk result (λ feeds. length feeds.items ≡ length names.now) }
+{
+    let mut feeds = Vec::new(rt.alloc());
+    for name in names {
+        let feed = TraceFeed::new(FileSource::new(rt, name.as_str()));
+        let Ok(()) = feeds.push(feed) else {
+            return Err(OutOfMemory);
+        };
     }
+    Ok(feeds)
 }
 
 /// The words after the program's name. Words that are no UTF-8 fit no form of a command.

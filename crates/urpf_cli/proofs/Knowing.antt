@@ -1,12 +1,13 @@
--- What a run knows of all events and items from a control that stands for the first of them.
-use Rattle.std.proofs.Common.{◌≡◌, ℕ, ◌+◌, ◌≤◌, List, [], ◌∷◌, ◌++◌, length, take, map, Option, Some, None, refl, sym}
+-- What is known of all events and items of a session from a peer that stands for the first of them.
+use Rattle.std.proofs.Common.{◌≡◌, ℕ, ◌+◌, ◌≤◌, List, [], ◌∷◌, ◌++◌, length, map, Option, Some, None, refl, sym}
 use Rattle.std.proofs.Common.{ap, subst, ◌∙◌, append_assoc, arith, length-append}
-use Rattle.std.proofs.lemmas.List.{append-nil, take_at}
+use Rattle.std.proofs.lemmas.List.{append-nil}
 use Rattle.bgp_wire.specs.Frames.{IsShort}
 use Rattle.feed_io.specs.Events.{Event, up, octets, down, elapsed}
 use Rattle.urpf_base.specs.declared.sessions.SessionConfig.{SessionConfig}
 use Rattle.session_fsm.specs.declared.items.Effect.{Effect}
 use Rattle.session_fsm.specs.declared.states.State.{State}
+use Rattle.session_fsm.specs.declared.states.State.TheVariants.{Idle}
 use Rattle.control_core.specs.States.{PeerState}
 use Rattle.control_core.specs.Items.{Item, AreItems, IsRest, LeavesOctets, SameButCuts, Connection, spread, octet_count}
 use Rattle.control_core.specs.Items.{connection_at_end}
@@ -15,9 +16,9 @@ use Rattle.control_core.specs.History.{StandsFor}
 use Rattle.control_core.specs.FeedCalls.{Gave}
 use Rattle.control_core.proofs.ItemLaws.{front_items, items_by_cuts, left_once, same_connection, spread-append}
 use Rattle.control_core.proofs.HistoryLaws.{none_pending}
-use Rattle.control_core.proofs.TurnLaws.{octet_count-append}
-use Rattle.urpf_cli.specs.RunText.{Inputs, HasEffects, session_0}
-use Rattle.urpf_cli.specs.Runs.{Run}
+use Rattle.control_core.proofs.RunLaws.{in_parts, one_run}
+use Rattle.control_core.proofs.OctetCounts.{octet_count-append}
+use Rattle.urpf_cli.specs.Inputs.{Input, IsInput, total}
 
 -- each item has one effect
 pub runs_length : (config : SessionConfig) (before : List Effect) (state : State) (items : List Item)
@@ -31,63 +32,70 @@ runs_length config before state (item ∷ items) effects last runs =
       length-append before (runs.0.1 ∷ []),
     )
 
--- what a control that stands for the first events says of all items
-pub record Known (inputs : Inputs) (effects : List Effect) : Type 0 where
-  pub has : HasEffects inputs (length effects) effects
-  pub within : length effects ≤ length inputs.items
+-- a session that stands for events took as many items as it has effects
+pub took_length : (events : List Event) (effects : List Effect) (peer : PeerState)
+    → (stands : StandsFor events effects peer) → length effects ≡ length stands.took
+took_length events effects peer stands =
+    omega (arith, runs_length peer.session.config [] Idle stands.took effects peer.session.state stands.runs)
 
-pub known : (run : Run) (gave rest : List Event) (effects : List Effect) (peering : PeerState)
-    → SameButCuts run.all (gave ++ rest) → (stands : StandsFor gave effects peering)
-    → peering.session.config ≡ session_0 → Known run.inputs effects
-known run gave rest effects peering same stands config =
+-- all items are as many as their effects
+pub input_length : (config : SessionConfig) (input : Input) → (is : IsInput config input)
+    → total input ≡ length is.items
+input_length config input is =
+    omega (arith, runs_length config [] Idle is.items input.course.effects is.last is.runs)
+
+-- what a session that stands for the first events says of all effects
+pub record Known (input : Input) (effects : List Effect) : Type 0 where
+  pub later : List Effect
+  pub parts : input.course.effects ≡ effects ++ later
+
+pub known : (config : SessionConfig) (input : Input) (gave rest : List Event) (effects : List Effect)
+    (peer : PeerState) → IsInput config input → SameButCuts input.course.events (gave ++ rest)
+    → StandsFor gave effects peer → peer.session.config ≡ config → Known input effects
+known config input gave rest effects peer is same stands own =
     let later =
-    front_items gave rest (stands.took ++ stands.pending) run.inputs.items stands.items
-    (items_by_cuts run.all (gave ++ rest) run.inputs.items same run.items) in
-    let parts : run.inputs.items ≡ stands.took ++ (stands.pending ++ later.0) = later.1
+    front_items gave rest (stands.took ++ stands.pending) is.items stands.items
+    (items_by_cuts input.course.events (gave ++ rest) is.items same is.are) in
+    let items : is.items ≡ stands.took ++ (stands.pending ++ later.0) = later.1
     ∙ append_assoc stands.took stands.pending later.0 in
-    let count : length effects
-    ≡ length stands.took =
-    omega (arith, runs_length peering.session.config [] _ stands.took effects peering.session.state stands.runs)
-    in
-    let front : take (length effects) run.inputs.items ≡ stands.took = ap (take (length effects)) parts
-    ∙ take_at stands.took (stands.pending ++ later.0) (length effects) (sym count) in
+    let split =
+    in_parts config [] Idle stands.took (stands.pending ++ later.0) input.course.effects is.last
+    (subst (λ (xs : List Item). Runs config xs input.course.effects is.last) items is.runs) in
+    let front =
+    one_run config stands.took split.first effects split.mid peer.session.state split.runs
+    (subst (λ (k : SessionConfig). Runs k stands.took effects peer.session.state) own stands.runs) in
     record {
-      has = (
-        peering.session.state,
-        subst (λ (xs : List Item). Runs session_0 xs effects peering.session.state) (sym front)
-            (subst (λ (k : SessionConfig). Runs k stands.took effects peering.session.state) config stands.runs),
-      );
-      within = omega (arith, count, ap length parts, length-append stands.took (stands.pending ++ later.0));
+      later = split.later;
+      parts = split.parts ∙ ap (λ (es : List Effect). es ++ split.later) front.0;
     }
 
+pub within : (input : Input) (effects : List Effect) → Known input effects → length effects ≤ total input
+within input effects known = omega (arith, ap length known.parts, length-append effects known.later)
+
 -- where the feed has nothing left and no item is still to be taken, all items were taken
-pub known_all : (run : Run) (gave : List Event) (effects : List Effect) (peering : PeerState)
-    → SameButCuts run.all (gave ++ []) → (stands : StandsFor gave effects peering) → IsShort peering.held
-    → length effects ≡ length run.inputs.items
-known_all run gave effects peering same stands short =
+pub known_all : (config : SessionConfig) (input : Input) (gave : List Event) (effects : List Effect)
+    (peer : PeerState) → IsInput config input → SameButCuts input.course.events (gave ++ [])
+    → StandsFor gave effects peer → IsShort peer.held → length effects ≡ total input
+known_all config input gave effects peer is same stands short =
     let later =
-    front_items gave [] (stands.took ++ stands.pending) run.inputs.items stands.items
-    (items_by_cuts run.all (gave ++ []) run.inputs.items same run.items) in
+    front_items gave [] (stands.took ++ stands.pending) is.items stands.items
+    (items_by_cuts input.course.events (gave ++ []) is.items same is.are) in
     let others =
-    front_items (gave ++ []) [] run.inputs.items (stands.took ++ stands.pending)
-    (items_by_cuts run.all (gave ++ []) run.inputs.items same run.items)
+    front_items (gave ++ []) [] is.items (stands.took ++ stands.pending)
+    (items_by_cuts input.course.events (gave ++ []) is.items same is.are)
     (subst (λ (es : List Event). AreItems es (stands.took ++ stands.pending))
     (sym (append-nil (gave ++ []) ∙ append-nil gave)) stands.items) in
     let none =
-    none_pending peering.receiving (connection_at_end None gave) peering.held stands.pending short stands.connection
-    in
-    let count : length effects
-    ≡ length stands.took =
-    omega (arith, runs_length peering.session.config [] _ stands.took effects peering.session.state stands.runs)
-    in
+    none_pending peer.receiving (connection_at_end None gave) peer.held stands.pending short stands.connection in
     omega (
       arith,
-      count,
+      took_length gave effects peer stands,
+      input_length config input is,
       ap length none,
       ap length later.1,
       ap length others.1,
       length-append (stands.took ++ stands.pending) later.0,
-      length-append run.inputs.items others.0,
+      length-append is.items others.0,
       length-append stands.took stands.pending,
     )
 
@@ -105,15 +113,15 @@ all_parts all gave rest more later same told =
     ∙ sym (spread-append gave (more ++ later)) ∙ ap spread (sym (append_assoc gave more later))
 
 -- the octets left behind at the end of all events
-pub rest_of_all : (run : Run) (gave : List Event) (rest : ℕ) → SameButCuts run.all (gave ++ []) → IsRest gave rest
-    → rest ≡ run.inputs.rest
-rest_of_all run gave rest same is =
+pub rest_of_all : (config : SessionConfig) (input : Input) (gave : List Event) (rest : ℕ) → IsInput config input
+    → SameButCuts input.course.events (gave ++ []) → IsRest gave rest → rest ≡ input.rest
+rest_of_all config input gave rest all same is =
     let connection : connection_at_end None gave
-    ≡ connection_at_end None run.all =
-    ap (connection_at_end None) (sym (append-nil gave)) ∙ sym (same_connection None run.all (gave ++ []) same)
-    in
-    left_once (connection_at_end None run.all) rest run.inputs.rest
-    (subst (λ (s : Connection). LeavesOctets s rest) connection is) run.rest
+    ≡ connection_at_end None input.course.events =
+    ap (connection_at_end None) (sym (append-nil gave))
+    ∙ sym (same_connection None input.course.events (gave ++ []) same) in
+    left_once (connection_at_end None input.course.events) rest input.rest
+    (subst (λ (s : Connection). LeavesOctets s rest) connection is) all.left
 
 -- how many octets came does not depend on cuts
 octet_count-singles : (piece : List ℕ) (later : List Event)

@@ -9,10 +9,10 @@ use Rattle.control_core.specs.declared.limits.RunFault.TheVariants as fault
 use Rattle.control_core.specs.Turns.{HadMemory}
 use Rattle.control_core.specs.States.{PeerState}
 use Rattle.control_core.specs.Pulls.{asks_more, met_end, EndsBy, TakesAtMost}
-use Rattle.urpf_cli.specs.RunText.{Position, pulled}
+use Rattle.urpf_cli.specs.Places.{Reached, pulled}
 
 -- where a pull leads from a position: the items that were taken, and whether the end was met
-pub record Leads (total : ℕ) (count : Option ℕ) (at : Position) (taken : ℕ) (ended : Bool) : Type 0 where
+pub record Leads (total : ℕ) (count : Option ℕ) (at : Reached) (taken : ℕ) (ended : Bool) : Type 0 where
   pub taken_is : (pulled total count at).taken ≡ taken
   pub ended_is : (pulled total count at).ended ≡ ended
   pub all_taken : ended ≡ true → taken ≡ total
@@ -34,7 +34,7 @@ pub below_not : (a b : ℕ) → nat_lt a b ≡ false → b ≤ a
 below_not a b is = grind (arith, nat_tests)
 
 -- a pull after the end
-pub leads_after_end : (total : ℕ) (count : Option ℕ) (at : Position) → at.ended ≡ true → at.taken ≡ total
+pub leads_after_end : (total : ℕ) (count : Option ℕ) (at : Reached) → at.ended ≡ true → at.taken ≡ total
     → Leads total count at at.taken true
 leads_after_end total None at ended all = record { taken_is = sym all; ended_is = refl; all_taken = λ is. all }
 leads_after_end total (Some count) at ended all = record {
@@ -44,7 +44,7 @@ leads_after_end total (Some count) at ended all = record {
 }
 
 -- a pull that met the end
-pub leads_to_end : (total : ℕ) (count : Option ℕ) (at : Position) (taken : ℕ) → taken ≡ total → at.taken ≤ taken
+pub leads_to_end : (total : ℕ) (count : Option ℕ) (at : Reached) (taken : ℕ) → taken ≡ total → at.taken ≤ taken
     → asks_more count (taken - at.taken) ≡ true → Leads total count at taken true
 leads_to_end total None at taken all from asks = record { taken_is = sym all; ended_is = refl; all_taken = λ is. all }
 leads_to_end total (Some count) at taken all from asks =
@@ -57,7 +57,7 @@ leads_to_end total (Some count) at taken all from asks =
     }
 
 -- a pull that took all that it asked for
-pub leads_on : (total : ℕ) (count : Option ℕ) (at : Position) (taken : ℕ) → at.ended ≡ false → taken ≤ total
+pub leads_on : (total : ℕ) (count : Option ℕ) (at : Reached) (taken : ℕ) → at.ended ≡ false → taken ≤ total
     → at.taken ≤ taken → ((n : ℕ) → count ≡ Some n → taken ≤ at.taken + n) → asks_more count (taken - at.taken) ≡ false
     → Leads total count at taken false
 leads_on total None at taken unmet within from most asks = let clash : true ≡ false = asks in cc
@@ -77,7 +77,7 @@ at_most None old new within = (within, λ n is. cc)
 at_most (Some count) old new within = (within.0, λ n is. let same : count ≡ n = cc in omega (arith, within.1, same))
 
 -- where a pull that ended well leads
-pub leads : (at : Position) (count : Option ℕ) (limits : Limits) (old new : PeerState) (total : ℕ)
+pub leads : (at : Reached) (count : Option ℕ) (limits : Limits) (old new : PeerState) (total : ℕ)
     → at.taken ≡ old.session.items → old.ended ≡ at.ended → (at.ended ≡ true → at.taken ≡ total)
     → new.session.items ≤ total → (met_end old new ≡ true → new.session.items ≡ total)
     → TakesAtMost count old new → EndsBy count limits old new (Ok tt) → Leads total count at new.session.items new.ended
@@ -111,13 +111,13 @@ unmet_clash old new unmet met = never (not old.ended) (ap (λ (b : Bool). not ol
     never false is = cc
 
 -- a pull takes no more items than its whole text has
-pub most_taken : (total : ℕ) (count : Option ℕ) (at : Position) (old new : PeerState) → at.taken ≡ old.session.items
+pub most_taken : (total : ℕ) (count : Option ℕ) (at : Reached) (old new : PeerState) → at.taken ≡ old.session.items
     → TakesAtMost count old new → new.session.items ≤ total → new.session.items ≤ (pulled total count at).taken
 most_taken total None at old new taken most within = within
 most_taken total (Some n) at old new taken most within = omega (arith, taken, most.1, within)
 
 -- a pull that stopped behind the end line had asked past the last item
-pub told_end : (total : ℕ) (count : Option ℕ) (at : Position) (limits : Limits) (old new : PeerState) (fault : RunFault)
+pub told_end : (total : ℕ) (count : Option ℕ) (at : Reached) (limits : Limits) (old new : PeerState) (fault : RunFault)
     (upto : ℕ)
     → at.taken ≡ old.session.items → old.ended ≡ at.ended → HadMemory {T = Unit {0}} (Err fault)
     → EndsBy count limits old new (Err fault) → new.session.items ≡ upto → old.session.items ≤ new.session.items

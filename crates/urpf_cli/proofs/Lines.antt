@@ -1,48 +1,12 @@
--- The line of a check out of a table of routes, and words out of their places.
-use Rattle.std.proofs.Common.{◌≡◌, ◌<◌, ℕ, ◌+◌, ◌≤◌, List, [], ◌∷◌, ◌++◌, length, take, drop, get_or, Bool, true, false}
-use Rattle.std.proofs.Common.{Option, Some, None, ap, sym, ◌∙◌, arith, refl, append_assoc}
+-- Words out of their places, and lines out of their pieces.
+use Rattle.std.proofs.Common.{◌≡◌, ℕ, ◌-◌, ◌≤◌, ◌<◌, List, [], ◌∷◌, ◌++◌, length, get_or, take, drop, map}
+use Rattle.std.proofs.Common.{Bool, true, false, arith, refl, append_assoc, ap, sym, subst, ◌∙◌, length-drop}
 use Rattle.std.specs.Prelude.{not}
+use Rattle.std.specs.List.{All}
 use Rattle.std.specs.Str.{bytes_eq}
-use Rattle.std.proofs.lemmas.List.{take_more}
-use Rattle.std.proofs.Math.Seq.{take-add}
+use Rattle.std.proofs.lemmas.List.{get_or-map, length-map, take_all}
+use Rattle.std.proofs.lemmas.List.Elements.{All-map}
 use Rattle.std.proofs.lemmas.Slice.Eq.{bytes_eq-Decides}
-use Rattle.std.specs.Prelude.{◌↔◌, IsSome}
-use Rattle.urpf_base.specs.declared.address.Addr.{Addr}
-use Rattle.urpf_base.specs.Address.{Block}
-use Rattle.urpf_base.specs.Lists.{Has}
-use Rattle.urpf_base.specs.RouteUpdates.{RouteUpdate, HasRoute}
-use Rattle.adj_rib.specs.Routes.{Routes, routes_at, prefixes_of}
-use Rattle.adj_rib.proofs.Routes.{has_held}
-use Rattle.control_core.specs.Table.{Follows, HoldsRoutes}
-use Rattle.control_core.proofs.Routes.{holds_one_more}
-use Rattle.report_text.specs.Lines.{check_one_line}
-use Rattle.urpf_cli.specs.Session.{updates_of}
-
-some_value : (o : Option (Option ℕ)) → IsSome o → (v : Option ℕ) × (o ≡ Some v)
-some_value None is = cc
-some_value (Some v) is = (v, refl)
-
-is_some_from : (o : Option (Option ℕ)) (v : Option ℕ) → o ≡ Some v → IsSome o
-is_some_from None v is = cc
-is_some_from (Some w) v is = refl
-
--- the prefixes of the table are those that the UPDATEs leave
-pub has_left : (said : List (Option RouteUpdate)) (routes : Routes) → HoldsRoutes (updates_of said) routes → (p : Block)
-    → Has (prefixes_of routes) p ↔ ((origin : Option ℕ) × HasRoute (updates_of said) p origin)
-has_left said routes held p = (
-  λ has. let found = some_value (routes_at routes p) ((has_held routes p).0 has) in
-      (found.0, (held p found.0).0 found.1),
-  λ left. (has_held routes p).1 (is_some_from (routes_at routes p) left.0 ((held p left.0).1 left.1)),
-)
-
--- equal numbers make an equal line
-pub line_of : (source : Addr) (passes : Bool) (messages m prefixes p rest r : ℕ) (line : List ℕ) → messages ≡ m
-    → prefixes ≡ p → rest ≡ r → line ≡ check_one_line source passes messages prefixes rest
-    → line ≡ check_one_line source passes m p r
-line_of source passes messages m prefixes p rest r line is_m is_p is_r is =
-    is ∙ ap (λ n. check_one_line source passes n prefixes rest) is_m
-    ∙ ap (λ n. check_one_line source passes m n rest) is_p
-    ∙ ap (λ n. check_one_line source passes m p n) is_r
 
 -- a list of three items is its items
 pub three_items : {X : Type 0} (xs : List X) (a b c : X) → 3 ≤ length xs → length xs < 4 → a ≡ get_or xs 0 a
@@ -65,50 +29,31 @@ not_unequal xs ys told = (bytes_eq-Decides xs ys).0 (true_from (bytes_eq xs ys) 
     true_from true e = refl
     true_from false e = e
 
--- the UPDATEs of one item more
-updates_of-keepalive : (ss : List (Option RouteUpdate)) → updates_of (ss ++ None ∷ []) ≡ updates_of ss
-updates_of-keepalive [] = refl
-updates_of-keepalive (None ∷ ss) = updates_of-keepalive ss
-updates_of-keepalive (Some u ∷ ss) = ap (λ us. u ∷ us) (updates_of-keepalive ss)
+-- a fact of each text is one of the word at each place
+pub each_at : {X : Type 0} (f : X → List ℕ) (P : List ℕ → Type 0) (xs : List X) (i : ℕ) (x : X) → i < length xs
+    → x ≡ get_or xs i x → All P (map f xs) → P (f x)
+each_at f P xs i x within is all =
+    let at = all i (f x) (omega (arith, length-map xs f)) in
+    subst P (get_or-map f xs i x (f x) within ∙ ap f (sym is)) at
 
-updates_of-update : (ss : List (Option RouteUpdate)) (u : RouteUpdate)
-    → updates_of (ss ++ Some u ∷ []) ≡ updates_of ss ++ u ∷ []
-updates_of-update [] u = refl
-updates_of-update (None ∷ ss) u = updates_of-update ss u
-updates_of-update (Some v ∷ ss) u = ap (λ us. v ∷ us) (updates_of-update ss u)
+-- a list of four items and more of them is its items
+pub four_items : {X : Type 0} (xs : List X) (a b c d : X) → 4 ≤ length xs → a ≡ get_or xs 0 a → b ≡ get_or xs 1 b
+    → c ≡ get_or xs 2 c → d ≡ get_or xs 3 d → xs ≡ a ∷ b ∷ c ∷ d ∷ drop 4 xs
+four_items [] a b c d some is_a is_b is_c is_d = absurd (omega arith)
+four_items (x ∷ []) a b c d some is_a is_b is_c is_d = absurd (omega arith)
+four_items (x ∷ y ∷ []) a b c d some is_a is_b is_c is_d = absurd (omega arith)
+four_items (x ∷ y ∷ z ∷ []) a b c d some is_a is_b is_c is_d = absurd (omega arith)
+four_items (x ∷ y ∷ z ∷ w ∷ more) a b c d some is_a is_b is_c is_d = cc
 
--- a table after one item more
-pub held_next : (ss : List (Option RouteUpdate)) (s : Option RouteUpdate) (old new : Routes)
-    → HoldsRoutes (updates_of ss) old → Follows s old new → HoldsRoutes (updates_of (ss ++ s ∷ [])) new
-held_next ss None old new held follows = rw (updates_of-keepalive ss, follows) held
-held_next ss (Some u) old new held follows =
-    rw (updates_of-update ss u) (holds_one_more (updates_of ss) u old new held follows)
+-- the same of four pieces
+pub pushed_four : (old a b c d : List ℕ) → (((old ++ a) ++ b) ++ c) ++ d ≡ old ++ (((a ++ b) ++ c) ++ d)
+pushed_four old a b c d = simp append_assoc
 
--- the same where the items are a list and one more of them was taken
-pub held_more : (items : List (Option RouteUpdate)) (i : ℕ) (item seen : Option RouteUpdate) (old new : Routes)
-    → i < length items → item ≡ get_or items i item → seen ≡ item → HoldsRoutes (updates_of (take i items)) old
-    → Follows seen old new → HoldsRoutes (updates_of (take (i + 1) items)) new
-held_more items i item seen old new within is same held follows =
-    let more : take (i + 1) items ≡ take i items ++ seen ∷ [] = take_more items i item within
-    ∙ ap (λ s. take i items ++ s ∷ []) (sym is ∙ sym same) in
-    rw more (held_next (take i items) seen old new held follows)
+-- a fact of the words up to the last is one of each text
+pub each_of_all : {X : Type 0} (f : X → List ℕ) (P : List ℕ → Type 0) (xs : List X) (n : ℕ) → length xs ≤ n
+    → All (λ w. P (f w)) (take n xs) → All P (map f xs)
+each_of_all f P xs n past all = All-map P f xs (subst (λ ws. All (λ w. P (f w)) ws) (take_all n xs past) all)
 
--- the same behind items that were taken before
-pub held_after : (said items : List (Option RouteUpdate)) (i : ℕ) (item seen : Option RouteUpdate) (old new : Routes)
-    → i < length items → item ≡ get_or items i item → seen ≡ item → HoldsRoutes (updates_of (said ++ take i items)) old
-    → Follows seen old new → HoldsRoutes (updates_of (said ++ take (i + 1) items)) new
-held_after said items i item seen old new within is same held follows =
-    let more : said ++ take (i + 1) items ≡ (said ++ take i items) ++ seen ∷ [] =
-    ap (λ t. said ++ t) (take_more items i item within ∙ ap (λ s. take i items ++ s ∷ []) (sym is ∙ sym same))
-    ∙ sym (append_assoc said (take i items) (seen ∷ [])) in
-    rw more (held_next (said ++ take i items) seen old new held follows)
-
--- the items taken before and the next ones are the items up to there
-pub held_upto : (items : List (Option RouteUpdate)) (taken count : ℕ) (left next : List (Option RouteUpdate))
-    (routes : Routes) → left ≡ drop taken items → next ≡ take count left
-    → HoldsRoutes (updates_of (take taken items ++ next)) routes
-    → HoldsRoutes (updates_of (take (taken + count) items)) routes
-held_upto items taken count left next routes is_left is_next held =
-    let same : take (taken + count) items ≡ take taken items ++ next = take-add taken count items
-    ∙ ap (λ t. take taken items ++ t) (ap (take count) (sym is_left) ∙ sym is_next) in
-    rw same held
+-- what follows the first items of a list
+pub rest_of : {X : Type 0} (n : ℕ) (xs : List X) → take (length xs - n) (drop n xs) ≡ drop n xs
+rest_of n xs = take_all (length xs - n) (drop n xs) (omega (arith, length-drop n xs))

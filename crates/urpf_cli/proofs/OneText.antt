@@ -1,104 +1,141 @@
--- A run has one text.
-use Rattle.std.proofs.Common.{◌≡◌, ℕ, ◌+◌, List, [], ◌∷◌, ◌++◌, length, refl, ap, sym, subst, ◌∙◌}
-use Rattle.std.proofs.lemmas.List.{append_cancel_left}
-use Rattle.std.specs.Prelude.{not, ◌&&◌}
-use Rattle.std.specs.List.{concat}
+-- Runs that are alike have one text.
+use Rattle.std.proofs.Common.{◌≡◌, ◌↔◌, ℕ, ◌+◌, List, [], ◌∷◌, ◌++◌, length, take, Some, refl, ap, sym, subst, ◌∙◌}
+use Rattle.std.specs.List.{AllZip, concat}
+use Rattle.urpf_base.specs.Address.{Block}
 use Rattle.urpf_base.specs.declared.address.Addr.{Addr}
-use Rattle.urpf_base.specs.declared.verdicts.Verdict.{Verdict}
-use Rattle.urpf_base.specs.declared.verdicts.Verdict.TheVariants.{Pass, Drop, BadHead, NoIface}
-use Rattle.session_fsm.specs.declared.items.Effect.{Effect}
-use Rattle.control_core.specs.Pulls.{reset_lines}
-use Rattle.control_core.proofs.Counting.{same_length}
-use Rattle.control_core.proofs.RunLaws.{one_run}
-use Rattle.report_text.specs.Lines.{publish_line, check_line, done_line}
+use Rattle.urpf_base.specs.declared.cells.Cell.{Cell}
+use Rattle.urpf_base.specs.declared.cells.CellChange.{CellChange}
+use Rattle.urpf_base.specs.declared.kinds.Kind.{Kind}
+use Rattle.router_config.specs.Settings.{Settings}
+use Rattle.rpf_plain.specs.Cells.{IsCell, IsDifference}
+use Rattle.rpf_plain.specs.Modes.{IsVerdict}
+use Rattle.rpf_plain.specs.World.{Pair, World}
+use Rattle.rpf_plain.proofs.Differing.{one_difference}
+use Rattle.rpf_plain.proofs.Verdicts.{one_verdict, same_verdict}
 use Rattle.runbook.specs.declared.lines.BookLine.{BookLine}
-use Rattle.runbook.specs.declared.lines.BookLine.TheVariants.{Pull, Publish, Check}
-use Rattle.urpf_cli.specs.RunText.{Inputs, HasEffects, Position, opening, pulled, next_position, position_after}
-use Rattle.urpf_cli.specs.RunText.{AreChanged, AreResets, end_text, Judges, Gives, GiveAll, IsRunText, head_text}
-use Rattle.urpf_cli.specs.RunText.{session_0}
+use Rattle.report_text.specs.Lines.{check_line, done_line, publish_line, summary_line}
+use Rattle.session_fsm.specs.declared.items.Effect.{Effect}
+use Rattle.control_core.specs.Effects.{HoldsSoMany}
+use Rattle.control_core.proofs.RunLaws.{one_count}
+use Rattle.urpf_cli.specs.Inputs.{Input, Run}
+use Rattle.urpf_cli.specs.Places.{Place, Reached, items_at, mark_at, next_place, opening, place_after, reached_at}
+use Rattle.urpf_cli.specs.RunText.{CheckGives, GiveAll, Gives, IsRunText, LeaveRoutes, PublishGives, head_text}
+use Rattle.urpf_cli.specs.Steps.{Step, pull, publish, round, check, change, summary, steps_of}
+use Rattle.urpf_cli.proofs.SameRuns.{AreAlike, RunsAlike, after_alike, next_alike, pull_alike, same_cells, same_kinds}
+use Rattle.urpf_cli.proofs.SameRuns.{same_pairs, same_rows}
 
--- so many items have one list of effects
-pub one_list : (inputs : Inputs) (count : ℕ) (a b : List Effect) → HasEffects inputs count a → HasEffects inputs count b
-    → a ≡ b
-one_list inputs count a b first second = (one_run session_0 _ a b first.0 second.0 first.1 second.1).0
+-- where the cells are the same, so is what differs
+same_difference : (old new v w : World) (changes : List CellChange)
+    → ((p : Block) (c : Cell) → IsCell old p c ↔ IsCell v p c)
+    → ((p : Block) (c : Cell) → IsCell new p c ↔ IsCell w p c) → IsDifference old new changes → IsDifference v w changes
+same_difference old new v w changes before after differ = record {
+  ascending = differ.ascending;
+  each = λ p c. (
+    λ h.
+        let told = (differ.each p c).0 h in
+        ((after p c).0 told.0, λ was. told.1 ((before p c).1 was)),
+    λ h. (differ.each p c).1 ((after p c).1 h.0, λ was. h.1 ((before p c).0 was)),
+  );
+}
 
--- one number of prefixes came or went
-one_change : (old new : List Effect) (c d : ℕ) → AreChanged old new c → AreChanged old new d → c ≡ d
-one_change old new c d a b =
-    a.counted
-    ∙ same_length a.changed b.changed a.distinct b.distinct (λ p has. (b.each p).1 ((a.each p).0 has))
-    (λ p has. (a.each p).1 ((b.each p).0 has)) ∙ sym b.counted
+module _ (run other : Run) (alike : RunsAlike run other) where
+  one_publication : (place : Place) (a b : List ℕ) → PublishGives run place a → PublishGives other place b → a ≡ b
+  one_publication place a b one two =
+      let number : ℕ = place.mark.number + 1 in
+      let before =
+      same_cells run other alike place place.mark one.old_kinds two.old_kinds one.old two.old one.was two.was in
+      let after =
+      same_cells run other alike place (mark_at place number) one.new_kinds two.new_kinds one.new two.new one.is
+      two.is in
+      let changes : one.changes ≡ two.changes =
+      one_difference two.old two.new one.changes two.changes
+      (same_difference one.old one.new two.old two.new one.changes before after one.difference) two.difference in
+      one.same
+      ∙ ap (λ (cs : List CellChange). publish_line number (length place.edits) (length cs) (items_at place)) changes
+      ∙ sym two.same
 
-one_verdict : (effects : List Effect) (addr : Addr) (v w : Verdict) → Judges effects addr v → Judges effects addr w
-    → v ≡ w
-one_verdict effects addr Pass Pass a b = refl
-one_verdict effects addr Pass Drop a b = absurd (b a.0 a.1 a.2)
-one_verdict effects addr Pass BadHead a b = absurd b
-one_verdict effects addr Pass NoIface a b = absurd b
-one_verdict effects addr Drop Pass a b = absurd (a b.0 b.1 b.2)
-one_verdict effects addr Drop Drop a b = refl
-one_verdict effects addr Drop BadHead a b = absurd b
-one_verdict effects addr Drop NoIface a b = absurd b
-one_verdict effects addr BadHead w a b = absurd a
-one_verdict effects addr NoIface w a b = absurd a
+  one_check : (place : Place) (iface : ℕ) (addr : Addr) (a b : List ℕ) → CheckGives run place iface addr a
+      → CheckGives other place iface addr b → a ≡ b
+  one_check place iface addr a b one two =
+      let kinds : one.kinds ≡ two.kinds =
+      same_kinds run other alike place place.mark one.kinds two.kinds one.world two.world one.is two.is in
+      let pairs : one.world.pairs ≡ two.world.pairs =
+      same_pairs run other alike place place.mark one.kinds two.kinds one.world two.world one.is two.is in
+      let moved : IsVerdict one.kinds two.world.rows one.world.pairs iface (Some addr) one.verdict =
+      same_verdict one.kinds one.world.rows two.world.rows
+      (same_rows run other alike place place.mark one.kinds two.kinds one.world two.world one.is two.is)
+      one.world.pairs iface (Some addr) one.verdict one.judges in
+      let turned : IsVerdict two.kinds two.world.rows one.world.pairs iface (Some addr) one.verdict =
+      subst
+      (λ (ks : List (ℕ × Kind)). IsVerdict ks two.world.rows one.world.pairs iface (Some addr) one.verdict)
+      kinds moved in
+      let verdict =
+      one_verdict two.kinds two.world.rows two.world.pairs iface (Some addr) one.verdict two.verdict
+      (subst (λ (ps : List Pair). IsVerdict two.kinds two.world.rows ps iface (Some addr) one.verdict) pairs turned)
+      two.judges in
+      one.same ∙ ap (λ v. check_line iface addr v place.mark.number) verdict ∙ sym two.same
 
--- the lines of the resets among some items are one text
-one_resets : (inputs : Inputs) (taken upto : ℕ) (a b : List ℕ) → AreResets inputs taken upto a
-    → AreResets inputs taken upto b → a ≡ b
-one_resets inputs taken upto a b first second =
-    let before : first.before ≡ second.before = one_list inputs taken first.before second.before first.has_before
-    second.has_before in
-    let all : first.before ++ first.more ≡ second.before
-    ++ second.more =
-    one_list inputs upto (first.before ++ first.more) (second.before ++ second.more) first.has_all
-    second.has_all in
-    let more : first.more
-    ≡ second.more =
-    append_cancel_left second.before first.more second.more
-    (ap (λ (es : List Effect). es ++ first.more) (sym before) ∙ all) in
-    first.same ∙ ap (reset_lines 0 taken) more ∙ sym second.same
+-- so many routes are left, and no other number
+one_left : (xs ys : List Input) (sessions : List Reached) (m n : ℕ) → AllZip AreAlike xs ys → LeaveRoutes xs sessions m
+    → LeaveRoutes ys sessions n → m ≡ n
+one_left [] [] sessions m n alike one two = one ∙ sym two
+one_left [] (y ∷ ys) sessions m n alike one two = absurd alike
+one_left (x ∷ xs) [] sessions m n alike one two = absurd alike
+one_left (x ∷ xs) (y ∷ ys) [] m n alike one two = one ∙ sym two
+one_left (x ∷ xs) (y ∷ ys) (at ∷ sessions) m n alike one two =
+    let own : one.0 ≡ two.0 =
+    one_count (take at.taken y.course.effects) one.0 two.0
+    (subst (λ (es : List Effect). HoldsSoMany (take at.taken es) one.0) alike.0.effects one.2) two.2 in
+    let others : one.1 ≡ two.1 = one_left xs ys sessions one.1 two.1 alike.1 one.3 two.3 in
+    one.4 ∙ ap (λ (k : ℕ). k + one.1) own ∙ ap (λ (k : ℕ). two.0 + k) others ∙ sym two.4
 
--- a line of the runbook gives one text at a position
-one_given : (inputs : Inputs) (at : Position) (line : BookLine) (a b : List ℕ) → Gives inputs at line a
-    → Gives inputs at line b → a ≡ b
-one_given inputs at (Pull session count) a b one two =
-    let next : Position = pulled (length inputs.items) count at in
-    let end : List ℕ = end_text (not at.ended && next.ended) inputs in
-    one.parts
-    ∙ ap (λ (t : List ℕ). t ++ end)
-    (one_resets inputs at.taken next.taken one.lines two.lines one.resets two.resets) ∙ sym two.parts
-one_given inputs at Publish a b one two =
-    let old : one.old ≡ two.old = one_list inputs at.marked one.old two.old one.has_old two.has_old in
-    let new : one.new ≡ two.new = one_list inputs at.taken one.new two.new one.has_new two.has_new in
-    let cells =
-    one_change two.old two.new one.cells two.cells
-    (subst (λ (es : List Effect). AreChanged es two.new one.cells) old
-    (subst (λ (es : List Effect). AreChanged one.old es one.cells) new one.changed)) two.changed in
-    one.same ∙ ap (λ c. publish_line (at.number + 1) 0 c (at.taken ∷ [])) cells ∙ sym two.same
-one_given inputs at (Check iface addr) a b one two =
-    let effects : one.effects ≡ two.effects = one_list inputs at.marked one.effects two.effects one.has two.has in
-    let verdict =
-    one_verdict two.effects addr one.verdict two.verdict
-    (subst (λ (es : List Effect). Judges es addr one.verdict) effects one.judges) two.judges in
-    one.same ∙ ap (λ v. check_line iface addr v at.number) verdict ∙ sym two.same
+module _ (run other : Run) (alike : RunsAlike run other) where
+  -- a step has one text
+  one_given : (place : Place) (step : Step) (a b : List ℕ) → Gives run place step a → Gives other place step b → a ≡ b
+  one_given place (pull session count) a b one two =
+      one ∙ pull_alike run other alike session count (reached_at place session) ∙ sym two
+  one_given place publish a b one two = one_publication run other alike place a b one two
+  one_given place round a b one two = one ∙ sym two
+  one_given place (check iface addr) a b one two = one_check run other alike place iface addr a b one two
+  one_given place (change edit) a b one two = one ∙ sym two
+  one_given place summary a b one two =
+      let count : one.count ≡ two.count =
+      one_left run.inputs other.inputs place.sessions one.count two.count alike.inputs one.left two.left in
+      one.same ∙ ap (λ (n : ℕ). summary_line n 0) count ∙ sym two.same
 
-all_given : (inputs : Inputs) (at : Position) (lines : List BookLine) (xs ys : List (List ℕ))
-    → GiveAll inputs at lines xs → GiveAll inputs at lines ys → xs ≡ ys
-all_given inputs at [] [] [] one two = refl
-all_given inputs at [] [] (y ∷ ys) one two = absurd two
-all_given inputs at [] (x ∷ xs) ys one two = absurd one
-all_given inputs at (line ∷ lines) [] ys one two = absurd one
-all_given inputs at (line ∷ lines) (x ∷ xs) [] one two = absurd two
-all_given inputs at (line ∷ lines) (x ∷ xs) (y ∷ ys) one two =
-    let first : x ≡ y = one_given inputs at line x y one.0 two.0 in
-    let more : xs ≡ ys = all_given inputs (next_position (length inputs.items) line at) lines xs ys one.1 two.1 in
-    ap (λ t. t ∷ xs) first ∙ ap (λ ts. y ∷ ts) more
+  -- so have several, one after the other
+  all_given : (place : Place) (steps : List Step) (xs ys : List (List ℕ)) → GiveAll run place steps xs
+      → GiveAll other place steps ys → xs ≡ ys
+  all_given place [] [] [] one two = refl
+  all_given place [] [] (y ∷ ys) one two = absurd two
+  all_given place [] (x ∷ xs) ys one two = absurd one
+  all_given place (step ∷ steps) [] ys one two = absurd one
+  all_given place (step ∷ steps) (x ∷ xs) [] one two = absurd two
+  all_given place (step ∷ steps) (x ∷ xs) (y ∷ ys) one two =
+      let first : x ≡ y = one_given place step x y one.0 two.0 in
+      let more : xs ≡ ys =
+      all_given (next_place other.inputs step place) steps xs ys
+      (subst (λ (p : Place). GiveAll run p steps xs) (next_alike run other alike step place) one.1) two.1 in
+      λ i. first i ∷ more i
 
--- a run has one text
-pub one_text : (inputs : Inputs) (lines : List BookLine) (a b : List ℕ) → IsRunText inputs lines a
-    → IsRunText inputs lines b → a ≡ b
-one_text inputs lines a b one two =
-    let texts = all_given inputs opening lines one.texts two.texts one.given two.given in
-    one.parts
-    ∙ ap (λ ts. head_text ++ (concat ts ++ done_line (position_after (length inputs.items) lines opening).number 0))
-    texts ∙ sym two.parts
+  -- and so has a run
+  pub one_text : (lines : List BookLine) (a b : List ℕ) → IsRunText run lines a → IsRunText other lines b → a ≡ b
+  one_text lines a b one two =
+      let begin = opening other.config.sessions in
+      let steps = steps_of (length other.config.sessions) lines in
+      let given : GiveAll run begin steps one.texts =
+      subst (λ (c : Settings). GiveAll run (opening c.sessions) (steps_of (length c.sessions) lines) one.texts)
+      alike.config one.given in
+      let texts : one.texts ≡ two.texts = all_given begin steps one.texts two.texts given two.given in
+      one.parts
+      ∙ ap
+      (λ (c : Settings). head_text c ++ (concat one.texts
+      ++ done_line (place_after run.inputs (steps_of (length c.sessions) lines) (opening c.sessions)).mark.number 0))
+      alike.config
+      ∙ ap
+      (λ (ts : List (List ℕ)). head_text other.config
+      ++ (concat ts ++ done_line (place_after run.inputs steps begin).mark.number 0))
+      texts
+      ∙ ap (λ (p : Place). head_text other.config ++ (concat two.texts ++ done_line p.mark.number 0))
+      (after_alike run other alike steps begin)
+      ∙ sym two.parts

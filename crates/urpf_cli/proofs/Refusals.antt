@@ -1,217 +1,136 @@
--- What `offline` answers is told by its status.
-use Rattle.std.proofs.Common.{◌≡◌, ◌⊎◌, ℕ, List, ◌++◌, ◌≤◌, length, Option, Some, None, Result, Ok, Err, IfSome}
-use Rattle.std.proofs.Common.{IsSomeAnd, refl, inl, inr, ap, sym, subst, ◌∙◌, arith}
-use Rattle.feed_io.specs.Events.{Event}
-use Rattle.runbook.specs.declared.lines.BookLine.{BookLine}
-use Rattle.runbook.specs.declared.lines.BookKind.{BookKind}
+-- A refusal is told by its status.
+use Rattle.std.proofs.Common.{◌≡◌, ◌⊎◌, ℕ, refl, ap, sym, subst, ◌∙◌, inl, inr}
+use Rattle.router_config.specs.declared.faults.ConfigFault.{ConfigFault}
+use Rattle.router_config.specs.declared.faults.ConfigKind.{ConfigKind}
 use Rattle.runbook.specs.declared.book.BookFault.{BookFault}
-use Rattle.runbook.specs.declared.book.ReadBook.{ReadBook}
-use Rattle.runbook.specs.declared.book.ReadBook.TheVariants as reading
-use Rattle.runbook.specs.Book.{IsFirstFault}
-use Rattle.control_core.specs.declared.limits.RunFault.{RunFault}
-use Rattle.control_core.specs.declared.limits.RunFault.TheVariants as fault
-use Rattle.control_core.specs.FeedCalls.{Gave}
-use Rattle.control_core.specs.Items.{SameButCuts}
-use Rattle.control_core.specs.Turns.{HadMemory}
-use Rattle.urpf_cli.specs.Limits.{StaysBelow}
-use Rattle.urpf_cli.specs.Offline.{IsRefused}
-use Rattle.urpf_cli.specs.Runs.{RanBook, Run}
-use Rattle.urpf_cli.specs.Statuses.{status_of_refusal, status_of_run}
+use Rattle.runbook.specs.declared.lines.BookKind.{BookKind}
+use Rattle.urpf_cli.specs.Openings.{IsDecided, IsFailure, IsTextFailure}
+use Rattle.urpf_cli.specs.Statuses.{status_of_book, status_of_config, status_of_refusal}
 use Rattle.urpf_cli.specs.declared.opening.Refusal.{Refusal}
-use Rattle.urpf_cli.specs.Words.{AreOfflineWords}
-use Rattle.urpf_cli.specs.declared.opening.Refusal.TheVariants as opening
-use Rattle.urpf_cli.specs.declared.opening.TheConstants.{BOOK_OCTETS}
-use Rattle.urpf_cli.specs.declared.status.Object.TheVariants.{Book, Session}
+use Rattle.urpf_cli.specs.declared.opening.Refusal.TheVariants.{Misused, Config, Book, SessionCount}
+use Rattle.urpf_cli.specs.declared.opening.TextRefusal.{TextRefusal}
+use Rattle.urpf_cli.specs.declared.opening.TextRefusal.TheVariants.{ReadFault, TooLong, Bad, OutOfMemory}
+use Rattle.urpf_cli.specs.declared.status.Status.TheVariants as status
 
--- a refusal is told by its status
-pub one_refusal : (a b : Refusal) → status_of_refusal a ≡ status_of_refusal b → a ≡ b
-one_refusal opening.Misused opening.Misused is = refl
-one_refusal opening.Misused opening.ReadFault is = absurd cc
-one_refusal opening.Misused opening.TooLong is = absurd cc
-one_refusal opening.Misused (opening.BadBook f) is = absurd cc
-one_refusal opening.Misused opening.OutOfMemory is = absurd cc
-one_refusal opening.ReadFault opening.Misused is = absurd cc
-one_refusal opening.ReadFault opening.ReadFault is = refl
-one_refusal opening.ReadFault opening.TooLong is = absurd cc
-one_refusal opening.ReadFault (opening.BadBook f) is = absurd cc
-one_refusal opening.ReadFault opening.OutOfMemory is = absurd cc
-one_refusal opening.TooLong opening.Misused is = absurd cc
-one_refusal opening.TooLong opening.ReadFault is = absurd cc
-one_refusal opening.TooLong opening.TooLong is = refl
-one_refusal opening.TooLong (opening.BadBook f) is = absurd cc
-one_refusal opening.TooLong opening.OutOfMemory is = absurd cc
-one_refusal (opening.BadBook f) opening.Misused is = absurd cc
-one_refusal (opening.BadBook f) opening.ReadFault is = absurd cc
-one_refusal (opening.BadBook f) opening.TooLong is = absurd cc
-one_refusal (opening.BadBook f) (opening.BadBook h) is =
-    let line : f.line ≡ h.line = cc in
-    let kind : f.kind ≡ h.kind = cc in
-    let same : f ≡ h = ap (λ (n : ℕ). record { line = n; kind = f.kind }) line
-    ∙ ap (λ (k : BookKind). record { line = h.line; kind = k }) kind in
-    ap (λ (x : BookFault). opening.BadBook x) same
-one_refusal (opening.BadBook f) opening.OutOfMemory is = absurd cc
-one_refusal opening.OutOfMemory opening.Misused is = absurd cc
-one_refusal opening.OutOfMemory opening.ReadFault is = absurd cc
-one_refusal opening.OutOfMemory opening.TooLong is = absurd cc
-one_refusal opening.OutOfMemory (opening.BadBook f) is = absurd cc
-one_refusal opening.OutOfMemory opening.OutOfMemory is = refl
+pub same_config_fault : (f g : ConfigFault) → f.kind ≡ g.kind → f.index ≡ g.index → f ≡ g
+same_config_fault f g kind index = ap (λ (k : ConfigKind). record { kind = k; index = f.index }) kind
+    ∙ ap (λ (n : ℕ). record { kind = g.kind; index = n }) index
 
--- what a run came to is told by its status
-pub one_run_end : (a b : Result (Unit {0}) RunFault) → status_of_run a ≡ status_of_run b → a ≡ b
-one_run_end (Ok u) (Ok v) is = refl
-one_run_end (Ok u) (Err (fault.ReadFault n)) is = absurd cc
-one_run_end (Ok u) (Err fault.WriteFault) is = absurd cc
-one_run_end (Ok u) (Err (fault.ItemLimit n)) is = absurd cc
-one_run_end (Ok u) (Err (fault.OctetLimit n)) is = absurd cc
-one_run_end (Ok u) (Err fault.OutOfMemory) is = absurd cc
-one_run_end (Err (fault.ReadFault n)) (Ok u) is = absurd cc
-one_run_end (Err (fault.ReadFault n)) (Err (fault.ReadFault m)) is =
-    let same : n ≡ m = cc in ap (λ (k : ℕ). Err (fault.ReadFault k)) same
-one_run_end (Err (fault.ReadFault n)) (Err fault.WriteFault) is = absurd cc
-one_run_end (Err (fault.ReadFault n)) (Err (fault.ItemLimit m)) is = absurd cc
-one_run_end (Err (fault.ReadFault n)) (Err (fault.OctetLimit m)) is = absurd cc
-one_run_end (Err (fault.ReadFault n)) (Err fault.OutOfMemory) is = absurd cc
-one_run_end (Err fault.WriteFault) (Ok u) is = absurd cc
-one_run_end (Err fault.WriteFault) (Err (fault.ReadFault m)) is = absurd cc
-one_run_end (Err fault.WriteFault) (Err fault.WriteFault) is = refl
-one_run_end (Err fault.WriteFault) (Err (fault.ItemLimit m)) is = absurd cc
-one_run_end (Err fault.WriteFault) (Err (fault.OctetLimit m)) is = absurd cc
-one_run_end (Err fault.WriteFault) (Err fault.OutOfMemory) is = absurd cc
-one_run_end (Err (fault.ItemLimit n)) (Ok u) is = absurd cc
-one_run_end (Err (fault.ItemLimit n)) (Err (fault.ReadFault m)) is = absurd cc
-one_run_end (Err (fault.ItemLimit n)) (Err fault.WriteFault) is = absurd cc
-one_run_end (Err (fault.ItemLimit n)) (Err (fault.ItemLimit m)) is =
-    let same : n ≡ m = cc in ap (λ (k : ℕ). Err (fault.ItemLimit k)) same
-one_run_end (Err (fault.ItemLimit n)) (Err (fault.OctetLimit m)) is = absurd cc
-one_run_end (Err (fault.ItemLimit n)) (Err fault.OutOfMemory) is = absurd cc
-one_run_end (Err (fault.OctetLimit n)) (Ok u) is = absurd cc
-one_run_end (Err (fault.OctetLimit n)) (Err (fault.ReadFault m)) is = absurd cc
-one_run_end (Err (fault.OctetLimit n)) (Err fault.WriteFault) is = absurd cc
-one_run_end (Err (fault.OctetLimit n)) (Err (fault.ItemLimit m)) is = absurd cc
-one_run_end (Err (fault.OctetLimit n)) (Err (fault.OctetLimit m)) is =
-    let same : n ≡ m = cc in ap (λ (k : ℕ). Err (fault.OctetLimit k)) same
-one_run_end (Err (fault.OctetLimit n)) (Err fault.OutOfMemory) is = absurd cc
-one_run_end (Err fault.OutOfMemory) (Ok u) is = absurd cc
-one_run_end (Err fault.OutOfMemory) (Err (fault.ReadFault m)) is = absurd cc
-one_run_end (Err fault.OutOfMemory) (Err fault.WriteFault) is = absurd cc
-one_run_end (Err fault.OutOfMemory) (Err (fault.ItemLimit m)) is = absurd cc
-one_run_end (Err fault.OutOfMemory) (Err (fault.OctetLimit m)) is = absurd cc
-one_run_end (Err fault.OutOfMemory) (Err fault.OutOfMemory) is = refl
+pub same_book_fault : (f g : BookFault) → f.line ≡ g.line → f.kind ≡ g.kind → f ≡ g
+same_book_fault f g line kind = ap (λ (n : ℕ). record { line = n; kind = f.kind }) line
+    ∙ ap (λ (k : BookKind). record { line = g.line; kind = k }) kind
 
--- a run that began has no status of a refusal, but for want of memory
-pub refused_or_run : (r : Refusal) (end : Result (Unit {0}) RunFault) → (r ≡ opening.OutOfMemory → ⊥)
-    → status_of_refusal r ≡ status_of_run end → ⊥
-refused_or_run opening.OutOfMemory end never is = never refl
-refused_or_run opening.Misused (Ok u) never is = cc
-refused_or_run opening.Misused (Err (fault.ReadFault n)) never is = cc
-refused_or_run opening.Misused (Err fault.WriteFault) never is = cc
-refused_or_run opening.Misused (Err (fault.ItemLimit n)) never is = cc
-refused_or_run opening.Misused (Err (fault.OctetLimit n)) never is = cc
-refused_or_run opening.Misused (Err fault.OutOfMemory) never is = cc
-refused_or_run opening.ReadFault (Ok u) never is = cc
-refused_or_run opening.ReadFault (Err (fault.ReadFault n)) never is = let clash : Book ≡ Session n = cc in cc
-refused_or_run opening.ReadFault (Err fault.WriteFault) never is = cc
-refused_or_run opening.ReadFault (Err (fault.ItemLimit n)) never is = cc
-refused_or_run opening.ReadFault (Err (fault.OctetLimit n)) never is = cc
-refused_or_run opening.ReadFault (Err fault.OutOfMemory) never is = cc
-refused_or_run opening.TooLong (Ok u) never is = cc
-refused_or_run opening.TooLong (Err (fault.ReadFault n)) never is = cc
-refused_or_run opening.TooLong (Err fault.WriteFault) never is = cc
-refused_or_run opening.TooLong (Err (fault.ItemLimit n)) never is = cc
-refused_or_run opening.TooLong (Err (fault.OctetLimit n)) never is = cc
-refused_or_run opening.TooLong (Err fault.OutOfMemory) never is = cc
-refused_or_run (opening.BadBook f) (Ok u) never is = cc
-refused_or_run (opening.BadBook f) (Err (fault.ReadFault n)) never is = cc
-refused_or_run (opening.BadBook f) (Err fault.WriteFault) never is = cc
-refused_or_run (opening.BadBook f) (Err (fault.ItemLimit n)) never is = cc
-refused_or_run (opening.BadBook f) (Err (fault.OctetLimit n)) never is = cc
-refused_or_run (opening.BadBook f) (Err fault.OutOfMemory) never is = cc
+-- a refusal of a configuration is told by its status
+one_config_status : (a b : TextRefusal ConfigFault) → status_of_config a ≡ status_of_config b → a ≡ b
+one_config_status ReadFault ReadFault is = refl
+one_config_status ReadFault TooLong is = absurd cc
+one_config_status ReadFault (Bad g) is = absurd cc
+one_config_status ReadFault OutOfMemory is = absurd cc
+one_config_status TooLong ReadFault is = absurd cc
+one_config_status TooLong TooLong is = refl
+one_config_status TooLong (Bad g) is = absurd cc
+one_config_status TooLong OutOfMemory is = absurd cc
+one_config_status (Bad f) ReadFault is = absurd cc
+one_config_status (Bad f) TooLong is = absurd cc
+one_config_status (Bad f) (Bad g) is =
+    let kind : f.kind ≡ g.kind = cc in
+    let index : f.index ≡ g.index = cc in
+    ap (λ (x : ConfigFault). Bad x) (same_config_fault f g kind index)
+one_config_status (Bad f) OutOfMemory is = absurd cc
+one_config_status OutOfMemory ReadFault is = absurd cc
+one_config_status OutOfMemory TooLong is = absurd cc
+one_config_status OutOfMemory (Bad g) is = absurd cc
+one_config_status OutOfMemory OutOfMemory is = refl
 
--- a run that memory was had for is not refused
-pub run_or_refused : (r : Refusal) (end : Result (Unit {0}) RunFault) → HadMemory end
-    → status_of_refusal r ≡ status_of_run end → ⊥
-run_or_refused opening.OutOfMemory (Ok u) had is = cc
-run_or_refused opening.OutOfMemory (Err (fault.ReadFault n)) had is = cc
-run_or_refused opening.OutOfMemory (Err fault.WriteFault) had is = cc
-run_or_refused opening.OutOfMemory (Err (fault.ItemLimit n)) had is = cc
-run_or_refused opening.OutOfMemory (Err (fault.OctetLimit n)) had is = cc
-run_or_refused opening.OutOfMemory (Err fault.OutOfMemory) had is = had
-run_or_refused opening.Misused end had is = refused_or_run opening.Misused end (λ e. cc) is
-run_or_refused opening.ReadFault end had is = refused_or_run opening.ReadFault end (λ e. cc) is
-run_or_refused opening.TooLong end had is = refused_or_run opening.TooLong end (λ e. cc) is
-run_or_refused (opening.BadBook f) end had is = refused_or_run (opening.BadBook f) end (λ e. cc) is
+-- a refusal of a runbook is told by its status
+one_book_status : (a b : TextRefusal BookFault) → status_of_book a ≡ status_of_book b → a ≡ b
+one_book_status ReadFault ReadFault is = refl
+one_book_status ReadFault TooLong is = absurd cc
+one_book_status ReadFault (Bad g) is = absurd cc
+one_book_status ReadFault OutOfMemory is = absurd cc
+one_book_status TooLong ReadFault is = absurd cc
+one_book_status TooLong TooLong is = refl
+one_book_status TooLong (Bad g) is = absurd cc
+one_book_status TooLong OutOfMemory is = absurd cc
+one_book_status (Bad f) ReadFault is = absurd cc
+one_book_status (Bad f) TooLong is = absurd cc
+one_book_status (Bad f) (Bad g) is =
+    let line : f.line ≡ g.line = cc in
+    let kind : f.kind ≡ g.kind = cc in
+    ap (λ (x : BookFault). Bad x) (same_book_fault f g line kind)
+one_book_status (Bad f) OutOfMemory is = absurd cc
+one_book_status OutOfMemory ReadFault is = absurd cc
+one_book_status OutOfMemory TooLong is = absurd cc
+one_book_status OutOfMemory (Bad g) is = absurd cc
+one_book_status OutOfMemory OutOfMemory is = refl
 
--- what a feed that tells its events gave, and the rest
-given_told : (all gave : List Event) (left : Option (List Event)) → Gave (Some all) gave left
-    → (rest : List Event) × SameButCuts all (gave ++ rest)
-given_told all gave None told = absurd told
-given_told all gave (Some rest) told = (rest, told)
+-- a configuration and a runbook are refused with one status only for want of memory
+both_status : (a : TextRefusal ConfigFault) (b : TextRefusal BookFault) → status_of_config a ≡ status_of_book b
+    → (a ≡ OutOfMemory) × (b ≡ OutOfMemory)
+both_status ReadFault ReadFault is = absurd cc
+both_status ReadFault TooLong is = absurd cc
+both_status ReadFault (Bad g) is = absurd cc
+both_status ReadFault OutOfMemory is = absurd cc
+both_status TooLong ReadFault is = absurd cc
+both_status TooLong TooLong is = absurd cc
+both_status TooLong (Bad g) is = absurd cc
+both_status TooLong OutOfMemory is = absurd cc
+both_status (Bad f) ReadFault is = absurd cc
+both_status (Bad f) TooLong is = absurd cc
+both_status (Bad f) (Bad g) is = absurd cc
+both_status (Bad f) OutOfMemory is = absurd cc
+both_status OutOfMemory ReadFault is = absurd cc
+both_status OutOfMemory TooLong is = absurd cc
+both_status OutOfMemory (Bad g) is = absurd cc
+both_status OutOfMemory OutOfMemory is = (refl, refl)
 
--- a run that asks past no limit, and where nothing fails, is done, or memory ran out
-pub done_below : (run : Run) (lines : List BookLine) (end : Result (Unit {0}) RunFault) (left : Option (List Event))
-    (old new : Option (List ℕ))
-    → RanBook run lines end left old new → StaysBelow lines run.all → ((n : ℕ) → end ≡ Err (fault.ReadFault n) → ⊥)
-    → (end ≡ Err fault.WriteFault → ⊥)
-    → (end ≡ Ok tt) ⊎ (end ≡ Err fault.OutOfMemory)
-done_below run lines (Ok u) left old new ran below read write = inl refl
-done_below run lines (Err (fault.ReadFault n)) left old new ran below read write = absurd (read n refl)
-done_below run lines (Err fault.WriteFault) left old new ran below read write = absurd (write refl)
-done_below run lines (Err (fault.ItemLimit n)) left old new ran below read write =
-    let given = ran.1 in
-    let rest = given_told run.all given.gave left given.told in
-    absurd ((below given.gave rest.0 rest.1).0 given.fills)
-done_below run lines (Err (fault.OctetLimit n)) left old new ran below read write =
-    let given = ran.1 in
-    let rest = given_told run.all given.gave left given.told in
-    absurd ((below given.gave rest.0 rest.1).1 given.fills)
-done_below run lines (Err fault.OutOfMemory) left old new ran below read write = inr refl
+config_is_own : (a : TextRefusal ConfigFault)
+    → (status_of_config a ≡ status.Usage → ⊥)
+    × ((t w : ℕ) → status_of_config a ≡ status.SessionCount t w → ⊥)
+config_is_own ReadFault = (λ is. absurd cc, λ t w is. absurd cc)
+config_is_own TooLong = (λ is. absurd cc, λ t w is. absurd cc)
+config_is_own (Bad f) = (λ is. absurd cc, λ t w is. absurd cc)
+config_is_own OutOfMemory = (λ is. absurd cc, λ t w is. absurd cc)
 
--- what reading the text of a runbook comes to
-abbrev pub Reading : Type 0
-Reading = Result (List (ℕ × BookLine)) ReadBook
+book_is_own : (a : TextRefusal BookFault)
+    → (status_of_book a ≡ status.Usage → ⊥)
+    × ((t w : ℕ) → status_of_book a ≡ status.SessionCount t w → ⊥)
+book_is_own ReadFault = (λ is. absurd cc, λ t w is. absurd cc)
+book_is_own TooLong = (λ is. absurd cc, λ t w is. absurd cc)
+book_is_own (Bad f) = (λ is. absurd cc, λ t w is. absurd cc)
+book_is_own OutOfMemory = (λ is. absurd cc, λ t w is. absurd cc)
 
--- the text that was read has these lines, so words and text decide no refusal
-pub opened_only : (words : List (List ℕ)) (left : Option (List ℕ)) (text : List ℕ) (rows : List (ℕ × BookLine))
-    (r : Refusal) (read : Reading) → IfSome left (λ all. text ≡ all) → AreOfflineWords words → length text ≤ BOOK_OCTETS
-    → read ≡ Ok rows
-    → ((number : ℕ) (kind : BookKind) → IsFirstFault text number kind
-    → (read ≡ Err (reading.Bad (record { line = number; kind = kind }))) ⊎ (read ≡ Err reading.OutOfMemory))
-    → IsSomeAnd left (λ t. IsRefused words t r) → ⊥
-opened_only words None text rows r read whole fit short is only refused = refused
-opened_only words (Some t) text rows opening.Misused read whole fit short is only refused = refused fit
-opened_only words (Some t) text rows opening.ReadFault read whole fit short is only refused = refused
-opened_only words (Some t) text rows opening.TooLong read whole fit short is only refused =
-    omega (arith, short, ap length whole, refused.1)
-opened_only words (Some t) text rows (opening.BadBook f) read whole fit short is only refused =
-    elim (only f.line f.kind (subst (λ (x : List ℕ). IsFirstFault x f.line f.kind) (sym whole) refused.2))
-    [ inl bad ↦ cc | inr memory ↦ cc ]
-opened_only words (Some t) text rows opening.OutOfMemory read whole fit short is only refused = refused
+-- a refusal that is decided is told by its status
+pub one_status : (a b : Refusal) → IsDecided b → status_of_refusal a ≡ status_of_refusal b → a ≡ b
+one_status Misused Misused decided is = refl
+one_status Misused (Config b) decided is = absurd ((config_is_own b).0 (sym is))
+one_status Misused (Book b) decided is = absurd ((book_is_own b).0 (sym is))
+one_status Misused (SessionCount t w) decided is = absurd cc
+one_status (Config a) Misused decided is = absurd ((config_is_own a).0 is)
+one_status (Config a) (Config b) decided is = ap (λ x. Config x) (one_config_status a b is)
+one_status (Config a) (Book b) decided is =
+    absurd (decided (subst (λ x. IsTextFailure x) (sym (both_status a b is).1) tt))
+one_status (Config a) (SessionCount t w) decided is = absurd ((config_is_own a).1 t w is)
+one_status (Book a) Misused decided is = absurd ((book_is_own a).0 is)
+one_status (Book a) (Config b) decided is =
+    absurd (decided (subst (λ x. IsTextFailure x) (sym (both_status b a (sym is)).0) tt))
+one_status (Book a) (Book b) decided is = ap (λ x. Book x) (one_book_status a b is)
+one_status (Book a) (SessionCount t w) decided is = absurd ((book_is_own a).1 t w is)
+one_status (SessionCount t w) Misused decided is = absurd cc
+one_status (SessionCount t w) (Config b) decided is = absurd ((config_is_own b).1 t w (sym is))
+one_status (SessionCount t w) (Book b) decided is = absurd ((book_is_own b).1 t w (sym is))
+one_status (SessionCount t w) (SessionCount u v) decided is = cc
 
--- the text that was read has this refused line, so words and text decide this refusal alone
-pub refused_only : (words : List (List ℕ)) (left : Option (List ℕ)) (text : List ℕ) (found : BookFault) (r : Refusal)
-    (read : Reading) → IfSome left (λ all. text ≡ all) → AreOfflineWords words → length text ≤ BOOK_OCTETS
-    → read ≡ Err (reading.Bad found)
-    → ((number : ℕ) (kind : BookKind) → IsFirstFault text number kind
-    → (read ≡ Err (reading.Bad (record { line = number; kind = kind }))) ⊎ (read ≡ Err reading.OutOfMemory))
-    → IsSomeAnd left (λ t. IsRefused words t r) → opening.BadBook found ≡ r
-refused_only words None text found r read whole fit short is only refused = absurd refused
-refused_only words (Some t) text found opening.Misused read whole fit short is only refused = absurd (refused fit)
-refused_only words (Some t) text found opening.ReadFault read whole fit short is only refused = absurd refused
-refused_only words (Some t) text found opening.TooLong read whole fit short is only refused =
-    absurd (omega (arith, short, ap length whole, refused.1))
-refused_only words (Some t) text found (opening.BadBook f) read whole fit short is only refused =
-    elim (only f.line f.kind (subst (λ (x : List ℕ). IsFirstFault x f.line f.kind) (sym whole) refused.2)) [
-      | inl bad ↦ let same : found ≡ f = cc in ap (λ (x : BookFault). opening.BadBook x) same
-      | inr memory ↦ absurd cc
-    ]
-refused_only words (Some t) text found opening.OutOfMemory read whole fit short is only refused = absurd refused
-
--- words of another form are refused for that alone
-pub misused_only : (words : List (List ℕ)) (left : Option (List ℕ)) (r : Refusal) → (AreOfflineWords words → ⊥)
-    → IsSomeAnd left (λ t. IsRefused words t r) → opening.Misused ≡ r
-misused_only words None r never refused = absurd refused
-misused_only words (Some t) opening.Misused never refused = refl
-misused_only words (Some t) opening.ReadFault never refused = absurd refused
-misused_only words (Some t) opening.TooLong never refused = absurd (never refused.0)
-misused_only words (Some t) (opening.BadBook f) never refused = absurd (never refused.0)
-misused_only words (Some t) opening.OutOfMemory never refused = absurd refused
+-- a failure is a failed read of the configuration or of the runbook, or want of memory
+pub failure_told : (r : Refusal) → IsFailure r
+    → (r ≡ Config ReadFault) ⊎ ((r ≡ Book ReadFault) ⊎ (status_of_refusal r ≡ status.OutOfMemory))
+failure_told Misused fails = absurd fails
+failure_told (Config ReadFault) fails = inl refl
+failure_told (Config TooLong) fails = absurd fails
+failure_told (Config (Bad f)) fails = absurd fails
+failure_told (Config OutOfMemory) fails = inr (inr refl)
+failure_told (Book ReadFault) fails = inr (inl refl)
+failure_told (Book TooLong) fails = absurd fails
+failure_told (Book (Bad f)) fails = absurd fails
+failure_told (Book OutOfMemory) fails = inr (inr refl)
+failure_told (SessionCount t w) fails = absurd fails

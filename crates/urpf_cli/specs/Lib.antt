@@ -1,9 +1,14 @@
 pub mod CheckOne
+pub mod Inputs
 pub mod Limits
 pub mod Offline
+pub mod Openings
+pub mod Outputs
+pub mod Places
 pub mod RunText
 pub mod Runs
 pub mod Session
 pub mod StatusText
 pub mod Statuses
+pub mod Steps
 pub mod Words

@@ -1,50 +1,65 @@
--- Where a run stops at a limit of its session. Our own choice.
-use Rattle.std.specs.Prelude.{◌≡◌, ◌⊎◌, ℕ, ◌-◌, ◌<◌, ◌≤◌, false, true, List, [], ◌∷◌, ◌++◌, length, Option, Some, None}
+-- Where a run stops at a limit of a session. Our own choice.
+use Rattle.std.specs.Prelude.{◌≡◌, ◌⊎◌, ℕ, ◌-◌, ◌<◌, ◌≤◌, ◌==◌, true, false, if◌then◌else◌, List, [], ◌∷◌, ◌++◌, length}
+use Rattle.std.specs.Prelude.{slice_get, Option, Some, None}
 use Rattle.feed_io.specs.Events.{Event}
-use Rattle.runbook.specs.declared.lines.BookLine.{BookLine}
-use Rattle.runbook.specs.declared.lines.BookLine.TheVariants.{Pull, Publish, Check}
 use Rattle.control_core.specs.declared.limits.TheConstants.{ITEM_LIMIT, OCTET_LIMIT}
-use Rattle.control_core.specs.Items.{Item, AreItems, SameButCuts, octet_count}
-use Rattle.control_core.specs.Pulls.{asks_more}
 use Rattle.control_core.specs.FeedCalls.{Gave}
-use Rattle.urpf_cli.specs.RunText.{Position}
+use Rattle.control_core.specs.Items.{AreItems, Item, SameButCuts, octet_count}
+use Rattle.control_core.specs.Pulls.{asks_more}
+use Rattle.urpf_cli.specs.Inputs.{Input, Run}
+use Rattle.urpf_cli.specs.Places.{Place, Reached, reached_at}
+use Rattle.urpf_cli.specs.Steps.{Step, pull, publish, round, check, change, summary}
 
--- the pulls of these lines ask for more than so many items
-abbrev pub AsksPast : List BookLine → ℕ → Type 0
+-- how many items each pull of this session asks for, where one may ask for all
+abbrev pub asked_of : ℕ → List Step → List (Option ℕ)
+asked_of session [] = []
+asked_of session (pull other count ∷ steps) =
+    if other == session then count ∷ asked_of session steps else asked_of session steps
+asked_of session (publish ∷ steps) = asked_of session steps
+asked_of session (round ∷ steps) = asked_of session steps
+asked_of session (check iface addr ∷ steps) = asked_of session steps
+asked_of session (change edit ∷ steps) = asked_of session steps
+asked_of session (summary ∷ steps) = asked_of session steps
+
+-- pulls ask for more than so many items
+abbrev pub AsksPast : List (Option ℕ) → ℕ → Type 0
 AsksPast [] items = ⊥
-AsksPast (Pull session None ∷ lines) items = Unit {0}
-AsksPast (Pull session (Some count) ∷ lines) items = (items < count) ⊎ AsksPast lines (items - count)
-AsksPast (Publish ∷ lines) items = AsksPast lines items
-AsksPast (Check iface addr ∷ lines) items = AsksPast lines items
+AsksPast (None ∷ counts) items = Unit {0}
+AsksPast (Some count ∷ counts) items = (items < count) ⊎ AsksPast counts (items - count)
 
--- the events have as many items as a session may take, and the lines ask for more
-pub record FillsItems (lines : List BookLine) (events : List Event) : Type 0 where
+-- the events have as many items as a session may take, and the pulls ask for more
+pub record FillsItems (counts : List (Option ℕ)) (events : List Event) : Type 0 where
   pub items : List Item
   pub are : AreItems events items
   pub full : ITEM_LIMIT ≤ length items
-  pub asks : AsksPast lines ITEM_LIMIT
+  pub asks : AsksPast counts ITEM_LIMIT
 
--- the events have as many octets as a feed may give, and fewer items than a session may take; the lines ask for more
+-- the events have as many octets as a feed may give, and fewer items than a session may take; the pulls ask for more
 -- than these
-pub record FillsOctets (lines : List BookLine) (events : List Event) : Type 0 where
+pub record FillsOctets (counts : List (Option ℕ)) (events : List Event) : Type 0 where
   pub items : List Item
   pub are : AreItems events items
   pub few : length items < ITEM_LIMIT
   pub full : OCTET_LIMIT ≤ octet_count events
-  pub asks : AsksPast lines (length items)
+  pub asks : AsksPast counts (length items)
 
--- the events fill no limit that the lines ask past
-abbrev pub FillsNone : List BookLine → List Event → Type 0
-FillsNone lines events = (FillsItems lines events → ⊥) × (FillsOctets lines events → ⊥)
+-- the events fill no limit that the pulls ask past
+abbrev pub FillsNone : List (Option ℕ) → List Event → Type 0
+FillsNone counts events = (FillsItems counts events → ⊥) × (FillsOctets counts events → ⊥)
 
--- it is so of the events that a feed gave
-pub record OfGiven (Fills : List Event → Type 0) (all : List Event) (left : Option (List Event)) : Type 0 where
+-- it is so of the events that the feed of this session gave
+pub record OfGiven (run : Run) (session : ℕ) (lefts : List (Option (List Event)))
+    (Fills : List Event → Type 0) : Type 0 where
+  pub input : Input
+  pub has : slice_get run.inputs session ≡ Some input
+  pub left : Option (List Event)
+  pub leaves : slice_get lefts session ≡ Some left
   pub gave : List Event
-  pub told : Gave (Some all) gave left
+  pub told : Gave (Some input.course.events) gave left
   pub fills : Fills gave
 
--- a pull at a position reaches the limit of items, and asks for more
-pub record PullFillsItems (at : Position) (count : Option ℕ) (events : List Event) : Type 0 where
+-- a pull where the session has come so far reaches the limit of items, and asks for more
+pub record PullFillsItems (at : Reached) (count : Option ℕ) (events : List Event) : Type 0 where
   pub items : List Item
   pub are : AreItems events items
   pub full : ITEM_LIMIT ≤ length items
@@ -52,8 +67,8 @@ pub record PullFillsItems (at : Position) (count : Option ℕ) (events : List Ev
   pub from : at.taken ≤ ITEM_LIMIT
   pub asks : asks_more count (ITEM_LIMIT - at.taken) ≡ true
 
--- a pull at a position reaches the limit of octets, and asks for more items than these have
-pub record PullFillsOctets (at : Position) (count : Option ℕ) (events : List Event) : Type 0 where
+-- a pull where the session has come so far reaches the limit of octets, and asks for more items than these have
+pub record PullFillsOctets (at : Reached) (count : Option ℕ) (events : List Event) : Type 0 where
   pub items : List Item
   pub are : AreItems events items
   pub few : length items < ITEM_LIMIT
@@ -62,14 +77,14 @@ pub record PullFillsOctets (at : Position) (count : Option ℕ) (events : List E
   pub from : at.taken ≤ length items
   pub asks : asks_more count (length items - at.taken) ≡ true
 
--- a line that is a pull reaches a limit with the events that the feed gave
-pub record LineFills (Fills : Option ℕ → List Event → Type 0) (all : List Event) (line : BookLine)
-    (left : Option (List Event)) : Type 0 where
-  pub session : Option ℕ
+-- a step at a place is a pull of this session that reaches a limit with the events that its feed gave
+pub record StepFills (Fills : Reached → Option ℕ → List Event → Type 0) (run : Run) (place : Place) (step : Step)
+    (session : ℕ) (lefts : List (Option (List Event))) : Type 0 where
   pub count : Option ℕ
-  pub pulls : line ≡ Pull session count
-  pub given : OfGiven (Fills count) all left
+  pub pulls : step ≡ pull session count
+  pub given : OfGiven run session lefts (Fills (reached_at place session) count)
 
--- the lines ask past no limit, however many of the events a feed gives
-abbrev pub StaysBelow : List BookLine → List Event → Type 0
-StaysBelow lines all = (gave rest : List Event) → SameButCuts all (gave ++ rest) → FillsNone lines gave
+-- the pulls of each session ask past no limit, however many of its events its feed gives
+abbrev pub StaysBelow : List (List Event) → List Step → Type 0
+StaysBelow feeds steps = (session : ℕ) (all : List Event) → slice_get feeds session ≡ Some all
+    → (gave rest : List Event) → SameButCuts all (gave ++ rest) → FillsNone (asked_of session steps) gave

@@ -1,147 +1,119 @@
--- The text of a run over the feed of one session on interface 0. Our own choice.
-use Rattle.std.specs.Prelude.{◌≡◌, ◌⊎◌, ℕ, ◌+◌, min, nat_lt, Bool, true, false, not, ◌&&◌, ◌||◌, if◌then◌else◌, List}
-use Rattle.std.specs.Prelude.{[], ◌∷◌, ◌++◌, length, take, Option, Some, None, ◌↔◌}
+-- The text of a run: the head, what each step of its runbook writes, and the closing line. Our own choice, over the
+-- source sets (RFC 8704, section 3) of the routes that the sessions leave (RFC 4271, section 3.2).
+use Rattle.std.specs.Prelude.{◌≡◌, ℕ, ◌+◌, Bool, not, ◌&&◌, if◌then◌else◌, List, [], ◌∷◌, ◌++◌, length, map}
+use Rattle.std.specs.Prelude.{drop, take, slice_get, Option, Some, None}
 use Rattle.std.specs.List.{concat}
 use Rattle.urpf_base.specs.declared.address.Addr.{Addr}
-use Rattle.urpf_base.specs.declared.sessions.SessionConfig.{SessionConfig}
+use Rattle.urpf_base.specs.declared.cells.CellChange.{CellChange}
+use Rattle.urpf_base.specs.declared.kinds.Kind.{Kind}
 use Rattle.urpf_base.specs.declared.verdicts.Verdict.{Verdict}
-use Rattle.urpf_base.specs.declared.verdicts.Verdict.TheVariants.{Pass, Drop, BadHead, NoIface}
-use Rattle.urpf_base.specs.Address.{Block, Covers}
-use Rattle.urpf_base.specs.Lists.{Has, AreDistinct}
-use Rattle.session_fsm.specs.declared.items.Effect.{Effect}
-use Rattle.session_fsm.specs.declared.states.State.{State}
-use Rattle.control_core.specs.Effects.{Reaches}
-use Rattle.control_core.specs.Items.{Item}
-use Rattle.control_core.specs.Pulls.{reset_lines}
-use Rattle.control_core.specs.Runs.{Runs}
-use Rattle.report_text.specs.Lines.{run_line, publish_line, end_line, check_line, done_line}
+use Rattle.rpf_plain.specs.Cells.{IsDifference}
+use Rattle.rpf_plain.specs.Modes.{IsVerdict}
+use Rattle.rpf_plain.specs.World.{World}
+use Rattle.router_config.specs.Settings.{Settings}
 use Rattle.runbook.specs.declared.lines.BookLine.{BookLine}
-use Rattle.runbook.specs.declared.lines.BookLine.TheVariants.{Pull, Publish, Check}
-use Rattle.urpf_cli.specs.declared.run.TheConstants.{PEER_AS, HOLD_SECONDS, MAX_PREFIXES}
+use Rattle.report_text.specs.Lines.{check_line, done_line, end_line, publish_line, round_line, run_line, summary_line}
+use Rattle.control_core.specs.Effects.{HoldsSoMany}
+use Rattle.control_core.specs.Pulls.{reset_lines}
+use Rattle.control_core.specs.Worlds.{IsWorldAt, Position}
+use Rattle.urpf_cli.specs.Inputs.{Input, Run, courses_of, total}
+use Rattle.urpf_cli.specs.Places.{Place, Reached, items_at, mark_at, next_place, opening, place_after, pulled}
+use Rattle.urpf_cli.specs.Places.{reached_at}
+use Rattle.urpf_cli.specs.Steps.{Step, pull, publish, round, check, change, summary, steps_of}
 
--- the one session: its interface, its peer, the hold time and the most prefixes
-abbrev pub session_0 : SessionConfig
-session_0 = record { iface = 0; peer_as = PEER_AS; hold = HOLD_SECONDS; max = MAX_PREFIXES }
-
--- what a run reads: the items of the session's feed, and how many octets are left behind them
-pub record Inputs : Type 0 where
-  pub items : List Item
-  pub rest : ℕ
-
--- the first so many items have these effects
-abbrev pub HasEffects : Inputs → ℕ → List Effect → Type 0
-HasEffects inputs count effects = (last : State) × Runs session_0 (take count inputs.items) effects last
-
--- how far a run has come: the items taken, whether the end of the feed was met, the last publication, and the items
--- taken at it
-pub record Position : Type 0 where
-  pub taken : ℕ
-  pub ended : Bool
-  pub number : ℕ
-  pub marked : ℕ
-
--- at the opening, which is publication 0
-abbrev pub opening : Position
-opening = record { taken = 0; ended = false; number = 0; marked = 0 }
-
--- a pull takes so many items, or all; it meets the end where it asks past the last
-abbrev pub pulled : ℕ → Option ℕ → Position → Position
-pulled total None at = record { taken = total; ended = true; number = at.number; marked = at.marked }
-pulled total (Some count) at =
-    record {
-      taken = min (at.taken + count) total;
-      ended = at.ended || nat_lt total (at.taken + count);
-      number = at.number;
-      marked = at.marked;
-    }
-
--- a publication has the next number, and marks the items taken
-abbrev pub published : Position → Position
-published at = record { taken = at.taken; ended = at.ended; number = at.number + 1; marked = at.taken }
-
--- the position after one line of the runbook; there are so many items in all
-abbrev pub next_position : ℕ → BookLine → Position → Position
-next_position total (Pull session count) at = pulled total count at
-next_position total Publish at = published at
-next_position total (Check iface addr) at = at
-
--- the position after some lines
-abbrev pub position_after : ℕ → List BookLine → Position → Position
-position_after total [] at = at
-position_after total (line ∷ lines) at = position_after total lines (next_position total line at)
-
--- so many prefixes came or went between items of the first effects and items of the second
-pub record AreChanged (old new : List Effect) (cells : ℕ) : Type 0 where
-  pub changed : List Block
-  pub distinct : AreDistinct changed
-  pub each : (p : Block)
-      → Has changed p ↔ (((Reaches old p → ⊥) × Reaches new p) ⊎ (Reaches old p × (Reaches new p → ⊥)))
-  pub counted : cells ≡ length changed
-
--- a source passes exactly where a prefix that is reached covers it
-abbrev pub Judges : List Effect → Addr → Verdict → Type 0
-Judges effects addr Pass = (p : Block) × Reaches effects p × Covers p addr
-Judges effects addr Drop = (p : Block) → Reaches effects p → Covers p addr → ⊥
-Judges effects addr BadHead = ⊥
-Judges effects addr NoIface = ⊥
-
--- the lines of the resets among the items from one number on up to another
-pub record AreResets (inputs : Inputs) (taken upto : ℕ) (lines : List ℕ) : Type 0 where
-  pub before : List Effect
-  pub more : List Effect
-  pub has_before : HasEffects inputs taken before
-  pub has_all : HasEffects inputs upto (before ++ more)
-  pub same : lines ≡ reset_lines 0 taken more
+-- the lines of the resets among the items of a session from one number on up to another
+abbrev pub resets : ℕ → Input → ℕ → ℕ → List ℕ
+resets session input taken upto = reset_lines session taken (drop taken (take upto input.course.effects))
 
 -- the end line of the session where its end was met, and nothing where it was not
-abbrev pub end_text : Bool → Inputs → List ℕ
-end_text met inputs = if met then end_line 0 (length inputs.items) inputs.rest else []
+abbrev pub end_text : Bool → ℕ → Input → List ℕ
+end_text met session input = if met then end_line session (total input) input.rest else []
 
--- what a pull writes that leads from one position to another
-pub record PullGives (inputs : Inputs) (at next : Position) (text : List ℕ) : Type 0 where
-  pub lines : List ℕ
-  pub resets : AreResets inputs at.taken next.taken lines
-  pub parts : text ≡ lines ++ end_text (not at.ended && next.ended) inputs
+-- what a pull writes that leads from one place of a session to another
+abbrev pub pull_text : ℕ → Input → Reached → Reached → List ℕ
+pull_text session input at next =
+    resets session input at.taken next.taken ++ end_text (not at.ended && next.ended) session input
 
--- what a publication writes
-pub record PublishGives (inputs : Inputs) (at : Position) (text : List ℕ) : Type 0 where
-  pub old : List Effect
-  pub new : List Effect
-  pub has_old : HasEffects inputs at.marked old
-  pub has_new : HasEffects inputs at.taken new
-  pub cells : ℕ
-  pub changed : AreChanged old new cells
-  pub same : text ≡ publish_line (at.number + 1) 0 cells (at.taken ∷ [])
+-- the same, where the session may not be there
+abbrev pub pull_text_of : ℕ → Option Input → Option ℕ → Reached → List ℕ
+pull_text_of session None count at = []
+pull_text_of session (Some input) count at = pull_text session input at (pulled (total input) count at)
 
--- what a check writes
-pub record CheckGives (inputs : Inputs) (at : Position) (iface : ℕ) (addr : Addr) (text : List ℕ) : Type 0 where
-  pub effects : List Effect
-  pub has : HasEffects inputs at.marked effects
+-- these are the kinds and the world of a mark that the run makes, or made
+abbrev pub IsWorldOf : Run → Place → Position → List (ℕ × Kind) → World → Type 0
+IsWorldOf run place mark kinds world = IsWorldAt run.config place.edits (courses_of run) mark kinds world
+
+-- what a publication writes: its number, and how many prefixes have another cell than at the last mark
+pub record PublishGives (run : Run) (place : Place) (text : List ℕ) : Type 0 where
+  pub old_kinds : List (ℕ × Kind)
+  pub old : World
+  pub was : IsWorldOf run place place.mark old_kinds old
+  pub new_kinds : List (ℕ × Kind)
+  pub new : World
+  pub is : IsWorldOf run place (mark_at place (place.mark.number + 1)) new_kinds new
+  pub changes : List CellChange
+  pub difference : IsDifference old new changes
+  pub same : text
+      ≡ publish_line (place.mark.number + 1) (length place.edits) (length changes) (items_at place)
+
+-- what a check writes: the verdict by the sets of the last mark
+pub record CheckGives (run : Run) (place : Place) (iface : ℕ) (addr : Addr) (text : List ℕ) : Type 0 where
+  pub kinds : List (ℕ × Kind)
+  pub world : World
+  pub is : IsWorldOf run place place.mark kinds world
   pub verdict : Verdict
-  pub judges : Judges effects addr verdict
-  pub same : text ≡ check_line iface addr verdict at.number
+  pub judges : IsVerdict kinds world.rows world.pairs iface (Some addr) verdict
+  pub same : text ≡ check_line iface addr verdict place.mark.number
 
--- what one line of the runbook writes at a position
-abbrev pub Gives : Inputs → Position → BookLine → List ℕ → Type 0
-Gives inputs at (Pull session count) text = PullGives inputs at (pulled (length inputs.items) count at) text
-Gives inputs at Publish text = PublishGives inputs at text
-Gives inputs at (Check iface addr) text = CheckGives inputs at iface addr text
+-- so many routes are left by the items that the sessions took: one for each session and prefix
+abbrev pub LeaveRoutes : List Input → List Reached → ℕ → Type 0
+LeaveRoutes [] sessions count = count ≡ 0
+LeaveRoutes (input ∷ inputs) [] count = count ≡ 0
+LeaveRoutes (input ∷ inputs) (at ∷ sessions) count =
+    (own : ℕ) × (others : ℕ) × HoldsSoMany (take at.taken input.course.effects) own
+    × LeaveRoutes inputs sessions others × (count ≡ own + others)
 
--- what the lines of the runbook write, one after the other, from a position on
-abbrev pub GiveAll : Inputs → Position → List BookLine → List (List ℕ) → Type 0
-GiveAll inputs at [] [] = Unit {0}
-GiveAll inputs at [] (text ∷ texts) = ⊥
-GiveAll inputs at (line ∷ lines) [] = ⊥
-GiveAll inputs at (line ∷ lines) (text ∷ texts) =
-    Gives inputs at line text × GiveAll inputs (next_position (length inputs.items) line at) lines texts
+-- what a summary writes: the routes of now; there are no pairs yet
+pub record SummaryGives (run : Run) (place : Place) (text : List ℕ) : Type 0 where
+  pub count : ℕ
+  pub left : LeaveRoutes run.inputs place.sessions count
+  pub same : text ≡ summary_line count 0
 
--- the run line and the line of publication 0: one interface, one session, no pairs
-abbrev pub head_text : List ℕ
-head_text = run_line 1 1 0 0 ++ publish_line 0 0 0 (0 ∷ [])
+-- what one step writes at a place
+abbrev pub Gives : Run → Place → Step → List ℕ → Type 0
+Gives run place (pull session count) text =
+    text ≡ pull_text_of session (slice_get run.inputs session) count (reached_at place session)
+Gives run place publish text = PublishGives run place text
+Gives run place round text = text ≡ round_line (place.rounds + 1)
+Gives run place (check iface addr) text = CheckGives run place iface addr text
+Gives run place (change edit) text = text ≡ []
+Gives run place summary text = SummaryGives run place text
 
--- the text is a run of these lines: the head, what each line writes, and the closing line
-pub record IsRunText (inputs : Inputs) (lines : List BookLine) (text : List ℕ) : Type 0 where
+-- what steps write, one after the other, from a place on
+abbrev pub GiveAll : Run → Place → List Step → List (List ℕ) → Type 0
+GiveAll run place [] [] = Unit {0}
+GiveAll run place [] (text ∷ texts) = ⊥
+GiveAll run place (step ∷ steps) [] = ⊥
+GiveAll run place (step ∷ steps) (text ∷ texts) =
+    Gives run place step text × GiveAll run (next_place run.inputs step place) steps texts
+
+-- the run line and the line of publication 0; there are no pairs yet
+abbrev pub head_text : Settings → List ℕ
+head_text config =
+    run_line (length config.interfaces) (length config.sessions) 0 0
+    ++ publish_line 0 0 0 (map (λ s. 0) config.sessions)
+
+-- the steps of a run of these lines
+abbrev pub steps_for : Run → List BookLine → List Step
+steps_for run lines = steps_of (length run.config.sessions) lines
+
+-- the place at which a run of these lines ends
+abbrev pub last_place : Run → List BookLine → Place
+last_place run lines = place_after run.inputs (steps_for run lines) (opening run.config.sessions)
+
+-- the text is a run of these lines: the head, what each step writes, and the closing line; there are no packets yet
+pub record IsRunText (run : Run) (lines : List BookLine) (text : List ℕ) : Type 0 where
   pub texts : List (List ℕ)
-  pub given : GiveAll inputs opening lines texts
-  pub parts : text ≡ head_text
-      ++ (concat texts ++ done_line (position_after (length inputs.items) lines opening).number 0)
+  pub given : GiveAll run (opening run.config.sessions) (steps_for run lines) texts
+  pub parts : text
+      ≡ head_text run.config ++ (concat texts ++ done_line (last_place run lines).mark.number 0)

@@ -1,21 +1,25 @@
 -- The status that tells what a command came to. Our own choice.
-use Rattle.std.specs.Prelude.{◌≡◌, ◌⊎◌, Result, Ok, Err}
+use Rattle.std.specs.Prelude.{◌≡◌, ◌⊎◌, ℕ, Result, Ok, Err}
+use Rattle.router_config.specs.declared.faults.ConfigFault.{ConfigFault}
+use Rattle.runbook.specs.declared.book.BookFault.{BookFault}
 use Rattle.control_core.specs.declared.limits.RunFault.{RunFault}
 use Rattle.control_core.specs.declared.limits.RunFault.TheVariants as fault
 use Rattle.urpf_cli.specs.CheckOne.{CheckEnd, judged, unreadable}
 use Rattle.urpf_cli.specs.CheckOne as check
 use Rattle.urpf_cli.specs.declared.opening.Refusal.{Refusal}
 use Rattle.urpf_cli.specs.declared.opening.Refusal.TheVariants as opening
+use Rattle.urpf_cli.specs.declared.opening.TextRefusal.{TextRefusal}
+use Rattle.urpf_cli.specs.declared.opening.TextRefusal.TheVariants as text
 use Rattle.urpf_cli.specs.Runs.{NamesSession}
 use Rattle.urpf_cli.specs.declared.session.SessionFault.{SessionFault}
 use Rattle.urpf_cli.specs.declared.session.SessionFault.TheVariants as stream
 use Rattle.bgp_update.specs.declared.subcodes.TheConstants.{UPDATE_MESSAGE_ERROR}
 use Rattle.bgp_wire.specs.declared.header.TheConstants.{MESSAGE_HEADER_ERROR}
-use Rattle.urpf_cli.specs.declared.status.Object.TheVariants.{Book, Stream, Session}
+use Rattle.urpf_cli.specs.declared.status.Object.TheVariants.{Config, Book, Stream, Session}
 use Rattle.urpf_cli.specs.declared.status.Status.{Status}
-use Rattle.urpf_cli.specs.declared.status.Status.TheVariants.{Done, Usage, BadBook, TooLong, ReadFault, WriteFault}
-use Rattle.urpf_cli.specs.declared.status.Status.TheVariants.{ItemLimit, OctetLimit, BadSession, Unsupported}
-use Rattle.urpf_cli.specs.declared.status.Status.TheVariants.{OutOfMemory}
+use Rattle.urpf_cli.specs.declared.status.Status.TheVariants.{Done, Usage, BadConfig, BadBook, SessionCount, TooLong}
+use Rattle.urpf_cli.specs.declared.status.Status.TheVariants.{ReadFault, WriteFault, ItemLimit, OctetLimit}
+use Rattle.urpf_cli.specs.declared.status.Status.TheVariants.{BadSession, Unsupported, OutOfMemory}
 
 -- a message that cannot be read: error code 1 is of a header, 3 of an UPDATE (RFC 4271, section 4.5)
 abbrev pub status_of_stream : SessionFault → Status
@@ -36,13 +40,26 @@ abbrev pub IsCheckStatus : Status → Type 0
 IsCheckStatus status = ((end : CheckEnd) × (status ≡ status_of_check end))
     ⊎ ((status ≡ ReadFault Stream) ⊎ ((status ≡ WriteFault) ⊎ (status ≡ OutOfMemory)))
 
--- why a run did not begin
+-- why a configuration is refused
+abbrev pub status_of_config : TextRefusal ConfigFault → Status
+status_of_config text.ReadFault = ReadFault Config
+status_of_config text.TooLong = TooLong Config
+status_of_config (text.Bad fault) = BadConfig fault.kind fault.index
+status_of_config text.OutOfMemory = OutOfMemory
+
+-- why a runbook is refused
+abbrev pub status_of_book : TextRefusal BookFault → Status
+status_of_book text.ReadFault = ReadFault Book
+status_of_book text.TooLong = TooLong Book
+status_of_book (text.Bad fault) = BadBook fault.line fault.kind
+status_of_book text.OutOfMemory = OutOfMemory
+
+-- why a run does not begin
 abbrev pub status_of_refusal : Refusal → Status
 status_of_refusal opening.Misused = Usage
-status_of_refusal opening.ReadFault = ReadFault Book
-status_of_refusal opening.TooLong = TooLong Book
-status_of_refusal (opening.BadBook fault) = BadBook fault.line fault.kind
-status_of_refusal opening.OutOfMemory = OutOfMemory
+status_of_refusal (opening.Config refusal) = status_of_config refusal
+status_of_refusal (opening.Book refusal) = status_of_book refusal
+status_of_refusal (opening.SessionCount given wanted) = SessionCount given wanted
 
 -- what a run came to
 abbrev pub status_of_run : Result (Unit {0}) RunFault → Status
@@ -53,7 +70,7 @@ status_of_run (Err (fault.ItemLimit session)) = ItemLimit session
 status_of_run (Err (fault.OctetLimit session)) = OctetLimit session
 status_of_run (Err fault.OutOfMemory) = OutOfMemory
 
--- a status that a run of session 0 may end with: a refusal, or what a run comes to
-abbrev pub IsRunStatus : Status → Type 0
-IsRunStatus status = ((refusal : Refusal) × (status ≡ status_of_refusal refusal))
-    ⊎ ((status ≡ Done) ⊎ ((fault : RunFault) × NamesSession 0 fault × (status ≡ status_of_run (Err fault))))
+-- a status that a run of so many sessions may end with: a refusal, or what a run comes to
+abbrev pub IsRunStatus : ℕ → Status → Type 0
+IsRunStatus sessions status = ((refusal : Refusal) × (status ≡ status_of_refusal refusal))
+    ⊎ ((status ≡ Done) ⊎ ((fault : RunFault) × NamesSession sessions fault × (status ≡ status_of_run (Err fault))))

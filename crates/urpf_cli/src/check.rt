@@ -13,7 +13,7 @@ ghost use Rattle.urpf_cli.specs.Words.{AreCheckWords};
 
 use crate::session::{SessionFault, read_session};
 use crate::status::{Object, Status};
-use crate::words::{Command, read_command};
+use crate::words::check_source;
 use adj_rib::AdjRib;
 use bgp_update::{UPDATE_MESSAGE_ERROR, UpdateView};
 use bgp_wire::MESSAGE_HEADER_ERROR;
@@ -61,7 +61,7 @@ pub fn check_one<S: Source, K: Sink>(
     ensures quiet { (result ≡ Status.Done → ⊥) → (result ≡ Status.WriteFault → ⊥)
         → out.new ≡ out.old }
 {
-    let Some(Command::Check { source }) = read_command(words) else {
+    let Some(source) = check_source(words) else {
         return Status::Usage;
     };
     let stream = match read_text(alloc, session, STREAM_OCTETS) {

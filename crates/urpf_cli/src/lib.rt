@@ -1,9 +1,9 @@
-//! The commands of the router, each as one call that is lent its words, sources, feed and sink.
+//! The commands of the router, each as one call that is lent its words, sources, feeds and sink.
 #![tactic(auto)]
 
 mod check;
 mod laws;
-mod offline;
+mod offline_command;
 mod opening;
 mod run;
 mod run_line;
@@ -13,9 +13,9 @@ mod status_text;
 mod words;
 
 pub use check::{STREAM_OCTETS, check_one};
-pub use laws::{assigned_numbers, one_output, one_run_text};
-pub use offline::offline_feed;
-pub use opening::BOOK_OCTETS;
+pub use laws::{one_opening, one_output, one_refusal_status, one_run_text, text_limits};
+pub use offline_command::offline;
+pub use opening::{BOOK_OCTETS, CONFIG_OCTETS};
 pub use status::{Object, Status};
 pub use status_text::{exit_code, put_status};
-pub use words::{Command, asks_offline, read_command};
+pub use words::{Command, Names, feed_names, read_command};

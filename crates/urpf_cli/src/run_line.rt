@@ -1,77 +1,241 @@
-//! What one line of a runbook does to a run, and which line of output it gives.
-ghost use Rattle.std.specs.Prelude.{◌≡◌, ◌⊎◌, ◌+◌, ◌-◌, ◌<◌, ◌^◌, ◌≤◌, Err, IfErr, List, ℕ, Option};
+//! What one line of a runbook does to a run, and which lines of output it gives.
+ghost use Rattle.std.specs.Prelude.{◌≡◌, ◌+◌, ◌^◌, ◌<◌, ◌≤◌, [], ◌∷◌, ◌++◌, Err, IfErr, IsSome, List, ℕ, Option, Some};
+ghost use Rattle.std.specs.Prelude.{length, map};
 ghost use Rattle.urpf_base.specs.Faults.{CountsFault};
 ghost use Rattle.feed_io.specs.Events.{Event};
+ghost use Rattle.report_text.specs.Lines.{publish_line};
+ghost use Rattle.router_config.specs.Edits.{target};
+ghost use Rattle.router_config.specs.Kinds.{kind_in};
+ghost use Rattle.router_config.specs.Settings.{Settings};
+ghost use Rattle.runbook.specs.Book.{IsConfiguredFor};
 ghost use Rattle.runbook.specs.declared.lines.BookLine.{BookLine};
+ghost use Rattle.control_core.specs.States.{ControlState};
+ghost use Rattle.control_core.specs.Worlds.{Position, last_number};
 ghost use Rattle.control_core.specs.declared.limits.RunFault.{RunFault};
-ghost use Rattle.urpf_cli.specs.RunText.{Position};
-ghost use Rattle.urpf_cli.specs.Runs.{IsAt, NamesSession, RanLine, Run};
+ghost use Rattle.urpf_cli.specs.Inputs.{Run};
+ghost use Rattle.urpf_cli.specs.Places.{Place};
+ghost use Rattle.urpf_cli.specs.Runs.{CountEach, CountsOn, IsAt, NamesSession, RanStep, RanSteps, Serves};
+ghost use Rattle.urpf_cli.specs.Steps as steps;
+ghost use Rattle.urpf_cli.specs.Steps.{pulls_of, steps_in};
 
-use control_core::{Control, RunFault, offer};
+use control_core::{Control, Marks, RunFault, offer};
 use feed_io::Feed;
-use report_text::{put_check, put_mark};
+use report_text::{put_check, put_mark, put_round};
+use router_config::Edit;
+use rpf_plain::SetEngine;
 use runbook::BookLine;
 use urpf_base::{Addr, IfaceId, Line, OutOfMemory, Sink};
 
 /// Does what the line asks for, and offers what it gives to the sink.
-pub fn take_line<F: Feed, K: Sink>(
-    control: &mut Control,
+pub fn take_line<E: SetEngine, F: Feed, K: Sink>(
+    control: &mut Control<E>,
+    rounds: &mut u64,
     line: &BookLine,
-    feed: &mut F,
+    feeds: &mut Vec<F>,
     out: &mut K,
 ) -> Result<(), RunFault>
-    requires room { control.old.number < 2 ^ 64 - 1 }
-    ensures ran { (run : Run) (at : Position) → IsAt run at control.old (F.left feed.old)
-        → RanLine run at line.now result control.new (F.left feed.new) (K.held out.old) (K.held out.new) }
-    ensures names { IfErr result (NamesSession control.old.peer.number) }
-    ensures session { control.new.peer.number ≡ control.old.peer.number }
-    ensures number { control.new.number ≤ control.old.number + 1 }
-    ensures feed { CountsFault (result ≡ Err (RunFault.ReadFault control.old.peer.number))
-        (F.faults feed.old) (F.faults feed.new) }
+    requires slots { length feeds.old.items ≡ length control.old.peers }
+    requires serves { (config : Settings) × Serves config control.old × IsConfiguredFor config line.now }
+    requires edits { control.old.edits < 2 ^ 32 }
+    requires number { last_number control.old.marks < 2 ^ 32 }
+    requires rounds { rounds.old < 2 ^ 32 }
+    ensures ran { (run : Run) (place : Place) → IsAt run place control.old rounds.old (map F.left feeds.old.items)
+        → RanSteps run place (steps_in (length control.old.peers) line.now) result control.new rounds.new
+        (map F.left feeds.new.items) (K.held out.old) (K.held out.new) }
+    ensures names { IfErr result (NamesSession (length control.old.peers)) }
+    ensures serves { (config : Settings) → Serves config control.old → Serves config control.new }
+    ensures counts { CountsOn control.old control.new }
+    ensures rounds { rounds.new ≤ rounds.old + 1 }
+    ensures feeds { CountEach F.faults (λ s. result ≡ Err (RunFault.ReadFault s)) feeds.old.items feeds.new.items }
     ensures sink { CountsFault (result ≡ Err RunFault.WriteFault) (K.faults out.old) (K.faults out.new) }
 {
     match line {
-        BookLine::Pull { session: _, count } => control.pull(feed, *count, out),
+        BookLine::Pull { session, count } => pull_named(control, feeds, *session, *count, out),
         BookLine::Publish => publish(control, out),
+        BookLine::Round => end_round(rounds, out),
         BookLine::Check { iface, addr } => check(control, *iface, addr, out),
+        BookLine::Change(edit) => change(control, edit),
+        BookLine::Summary => summarize(control, out),
     }
 }
 
-/// Publishes, and offers the line of the publication.
-fn publish<K: Sink>(control: &mut Control, out: &mut K) -> Result<(), RunFault>
-    requires { control.old.number < 2 ^ 64 - 1 }
-    ensures ran { (run : Run) (at : Position) (left : Option (List Event)) → IsAt run at control.old left
-        → RanLine run at BookLine.Publish result control.new left (K.held out.old) (K.held out.new) }
-    ensures err { IfErr result (λ fault. (fault ≡ RunFault.WriteFault) ⊎ (fault ≡ RunFault.OutOfMemory)) }
-    ensures session { control.new.peer.number ≡ control.old.peer.number }
-    ensures number { control.new.number ≤ control.old.number + 1 }
+/// Pulls the session of this number, or each where none is given.
+fn pull_named<E: SetEngine, F: Feed, K: Sink>(
+    control: &mut Control<E>,
+    feeds: &mut Vec<F>,
+    session: Option<u32>,
+    count: Option<u64>,
+    out: &mut K,
+) -> Result<(), RunFault>
+    requires slots { length feeds.old.items ≡ length control.old.peers }
+    requires serves { (config : Settings) × Serves config control.old }
+    requires named { (number : ℕ) → session ≡ Some number → number < length control.old.peers }
+    ensures ran { (run : Run) (place : Place) (rounds : ℕ)
+        → IsAt run place control.old rounds (map F.left feeds.old.items)
+        → RanSteps run place (steps_in (length control.old.peers) (BookLine.Pull session count)) result control.new
+        rounds (map F.left feeds.new.items) (K.held out.old) (K.held out.new) }
+    ensures names { IfErr result (NamesSession (length control.old.peers)) }
+    ensures serves { (config : Settings) → Serves config control.old → Serves config control.new }
+    ensures counts { CountsOn control.old control.new }
+    ensures feeds { CountEach F.faults (λ s. result ≡ Err (RunFault.ReadFault s)) feeds.old.items feeds.new.items }
     ensures sink { CountsFault (result ≡ Err RunFault.WriteFault) (K.faults out.old) (K.faults out.new) }
 {
-    let items = control.items();
-    let (number, cells) = match control.publish() {
+    match session {
+        Some(session) => pull(control, feeds, session, count, out),
+        None => pull_each(control, feeds, count, out),
+    }
+}
+
+/// Pulls each session, from session 0 on.
+fn pull_each<E: SetEngine, F: Feed, K: Sink>(
+    control: &mut Control<E>,
+    feeds: &mut Vec<F>,
+    count: Option<u64>,
+    out: &mut K,
+) -> Result<(), RunFault>
+    requires slots { length feeds.old.items ≡ length control.old.peers }
+    requires serves { (config : Settings) × Serves config control.old }
+    ensures ran { (run : Run) (place : Place) (rounds : ℕ)
+        → IsAt run place control.old rounds (map F.left feeds.old.items)
+        → RanSteps run place (pulls_of (length control.old.peers) count) result control.new rounds
+        (map F.left feeds.new.items) (K.held out.old) (K.held out.new) }
+    ensures names { IfErr result (NamesSession (length control.old.peers)) }
+    ensures serves { (config : Settings) → Serves config control.old → Serves config control.new }
+    ensures counts { CountsOn control.old control.new }
+    ensures feeds { CountEach F.faults (λ s. result ≡ Err (RunFault.ReadFault s)) feeds.old.items feeds.new.items }
+    ensures sink { CountsFault (result ≡ Err RunFault.WriteFault) (K.faults out.old) (K.faults out.new) }
+{
+    let sessions = feeds.len() as u32;
+    for session in 0..sessions {
+        if let Err(fault) = pull(control, feeds, session, count, out) {
+            return Err(fault);
+        }
+    }
+    Ok(())
+}
+
+/// Pulls one session.
+fn pull<E: SetEngine, F: Feed, K: Sink>(
+    control: &mut Control<E>,
+    feeds: &mut Vec<F>,
+    session: u32,
+    count: Option<u64>,
+    out: &mut K,
+) -> Result<(), RunFault>
+    requires slots { length feeds.old.items ≡ length control.old.peers }
+    requires session { session < length control.old.peers }
+    ensures ran { (run : Run) (place : Place) (rounds : ℕ)
+        → IsAt run place control.old rounds (map F.left feeds.old.items)
+        → RanStep run place (steps.pull session count) result control.new rounds
+        (map F.left feeds.new.items) (K.held out.old) (K.held out.new) }
+    ensures names { IfErr result (NamesSession (length control.old.peers)) }
+    ensures serves { (config : Settings) → Serves config control.old → Serves config control.new }
+    ensures edits { control.new.edits ≡ control.old.edits }
+    ensures number { last_number control.new.marks ≡ last_number control.old.marks }
+    ensures feeds { CountEach F.faults (λ s. result ≡ Err (RunFault.ReadFault s)) feeds.old.items feeds.new.items }
+    ensures sink { CountsFault (result ≡ Err RunFault.WriteFault) (K.faults out.old) (K.faults out.new) }
+{
+    control.pull(feeds, session, count, out)
+}
+
+/// Publishes, and offers the line of the publication.
+fn publish<E: SetEngine, K: Sink>(control: &mut Control<E>, out: &mut K) -> Result<(), RunFault>
+    requires number { last_number control.old.marks < 2 ^ 32 }
+    requires sessions { length control.old.peers ≤ 128 }
+    ensures ran { (run : Run) (place : Place) (rounds : ℕ) (lefts : List (Option (List Event)))
+        → IsAt run place control.old rounds lefts
+        → RanStep run place steps.publish result control.new rounds lefts (K.held out.old) (K.held out.new) }
+    ensures err { IfErr result (NamesSession 0) }
+    ensures serves { (config : Settings) → Serves config control.old → Serves config control.new }
+    ensures edits { control.new.edits ≡ control.old.edits }
+    ensures number { last_number control.new.marks ≤ last_number control.old.marks + 1 }
+    ensures sink { CountsFault (result ≡ Err RunFault.WriteFault) (K.faults out.old) (K.faults out.new) }
+{
+    let (_, cells) = match control.publish() {
         Ok(published) => published,
         Err(OutOfMemory) => return Err(RunFault::OutOfMemory),
     };
     let mut text = Line::new();
-    put_mark(number, 0, cells, &[items], &mut text);
+    put_last_mark(control.marks(), cells, &mut text);
+    offer(&text, out)
+}
+
+/// Writes the line of the last mark, at which so many cells changed.
+pub fn put_last_mark(marks: &Marks, cells: u64, to: &mut Line)
+    requires empty { to.old ≡ [] }
+    requires few { (earlier : List Position) × (mark : Position) × (marks.now ≡ earlier ++ mark ∷ [])
+        × (length mark.items ≤ 128) }
+    ensures { (earlier : List Position) (mark : Position) → marks.now ≡ earlier ++ mark ∷ []
+        → to.new ≡ publish_line mark.number mark.edits cells mark.items }
+{
+    let marks = marks.items();
+    let mark = &marks[marks.len() - 1];
+    put_mark(mark.number(), mark.edits(), cells, mark.items(), to);
+}
+
+/// Ends a round, and offers its line.
+fn end_round<K: Sink>(rounds: &mut u64, out: &mut K) -> Result<(), RunFault>
+    requires { rounds.old < 2 ^ 32 }
+    ensures ran { (run : Run) (place : Place) (control : ControlState) (lefts : List (Option (List Event)))
+        → IsAt run place control rounds.old lefts
+        → RanStep run place steps.round result control rounds.new lefts (K.held out.old) (K.held out.new) }
+    ensures err { IfErr result (NamesSession 0) }
+    ensures rounds { rounds.new ≡ rounds.old + 1 }
+    ensures sink { CountsFault (result ≡ Err RunFault.WriteFault) (K.faults out.old) (K.faults out.new) }
+{
+    *rounds += 1;
+    let mut text = Line::new();
+    put_round(*rounds, &mut text);
     offer(&text, out)
 }
 
 /// Judges the address at the last publication, and offers the line of the check.
-fn check<K: Sink>(
-    control: &Control,
+fn check<E: SetEngine, K: Sink>(
+    control: &Control<E>,
     iface: IfaceId,
     addr: &Addr,
     out: &mut K,
 ) -> Result<(), RunFault>
-    ensures ran { (run : Run) (at : Position) (left : Option (List Event)) → IsAt run at control.now left
-        → RanLine run at (BookLine.Check iface addr.now) result control.now left
+    ensures ran { (run : Run) (place : Place) (rounds : ℕ) (lefts : List (Option (List Event)))
+        → IsAt run place control.now rounds lefts
+        → RanStep run place (steps.check iface addr.now) result control.now rounds lefts
         (K.held out.old) (K.held out.new) }
-    ensures err { IfErr result (λ fault. fault ≡ RunFault.WriteFault) }
+    ensures err { IfErr result (NamesSession 0) }
     ensures sink { CountsFault (result ≡ Err RunFault.WriteFault) (K.faults out.old) (K.faults out.new) }
 {
     let mut text = Line::new();
-    let verdict = control.judge(addr);
+    let verdict = control.judge(iface, addr);
     put_check(iface, addr, verdict, control.number(), &mut text);
+    offer(&text, out)
+}
+
+/// Changes the role or the mode of an interface. Nothing is written.
+fn change<E: SetEngine>(control: &mut Control<E>, edit: &Edit) -> Result<(), RunFault>
+    requires few { control.old.edits < 2 ^ 32 }
+    requires configured { IsSome (kind_in control.old.kinds (target edit.now)) }
+    ensures ran { (run : Run) (place : Place) (rounds : ℕ) (lefts : List (Option (List Event)))
+        (held : Option (List ℕ)) → IsAt run place control.old rounds lefts
+        → RanStep run place (steps.change edit.now) result control.new rounds lefts held held }
+    ensures err { IfErr result (λ fault. fault ≡ RunFault.OutOfMemory) }
+    ensures serves { (config : Settings) → Serves config control.old → Serves config control.new }
+    ensures edits { control.new.edits ≤ control.old.edits + 1 }
+    ensures number { last_number control.new.marks ≡ last_number control.old.marks }
+{
+    match control.edit(edit) {
+        Ok(()) => Ok(()),
+        Err(OutOfMemory) => Err(RunFault::OutOfMemory),
+    }
+}
+
+/// Offers the line of the routes of now.
+fn summarize<E: SetEngine, K: Sink>(control: &Control<E>, out: &mut K) -> Result<(), RunFault>
+    ensures ran { (run : Run) (place : Place) (rounds : ℕ) (lefts : List (Option (List Event)))
+        → IsAt run place control.now rounds lefts
+        → RanStep run place steps.summary result control.now rounds lefts (K.held out.old) (K.held out.new) }
+    ensures err { IfErr result (NamesSession 0) }
+    ensures sink { CountsFault (result ≡ Err RunFault.WriteFault) (K.faults out.old) (K.faults out.new) }
+{
+    let mut text = Line::new();
+    control.put_summary(&mut text);
     offer(&text, out)
 }

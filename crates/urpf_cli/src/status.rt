@@ -1,10 +1,13 @@
 //! How a command ended.
 
+use router_config::ConfigKind;
 use runbook::BookKind;
 
 /// A text or stream that a status names.
 #[derive(Clone, Copy, Debug, PartialEq, Eq)]
 pub enum Object {
+    /// The configuration.
+    Config,
     /// The runbook.
     Book,
     /// The stream of one session.
@@ -20,8 +23,14 @@ pub enum Status {
     Done,
     /// The words fit no form of the command.
     Usage,
+    /// The configuration breaks the rule of this kind first, at the interface or session of this
+    /// place, counted from 0, or at 0 where the rule is on the whole.
+    BadConfig { kind: ConfigKind, index: u32 },
     /// The line of this number, counted from 1, is the first of the runbook that is refused.
     BadBook { line: u32, kind: BookKind },
+    /// There are so many session words, and another number of sessions is configured. A number given
+    /// that is above 4,294,967,295 is told as 4,294,967,295.
+    SessionCount { given: u32, wanted: u32 },
     /// The text has more octets than its limit.
     TooLong(Object),
     /// A read of the object failed.

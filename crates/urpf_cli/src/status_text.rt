@@ -1,10 +1,12 @@
 //! A status comes in, and what it says on standard error goes out, and the number that the program
 //! ends with.
 ghost use Rattle.std.specs.Prelude.{◌≡◌, ◌+◌, ◌≤◌, [], ◌++◌, length, codes, decimal};
-ghost use Rattle.urpf_cli.specs.StatusText.{exit_of, kind_text, object_text, status_line, status_text};
+ghost use Rattle.urpf_cli.specs.StatusText.{book_kind_text, config_kind_text, exit_of, object_text, status_line};
+ghost use Rattle.urpf_cli.specs.StatusText.{status_text};
 
 use crate::status::{Object, Status};
 use ip_text::put_number;
+use router_config::ConfigKind;
 use runbook::BookKind;
 use urpf_base::Line;
 
@@ -32,7 +34,9 @@ pub fn exit_code(status: &Status) -> u8
     match status {
         Status::Done => 0,
         Status::Usage => 2,
+        Status::BadConfig { .. } => 3,
         Status::BadBook { .. } => 4,
+        Status::SessionCount { .. } => 5,
         Status::TooLong(_) => 7,
         Status::ReadFault(_) => 8,
         Status::WriteFault => 9,
@@ -52,7 +56,9 @@ fn put_text(status: &Status, to: &mut Line)
     match status {
         Status::Done => {}
         Status::Usage => to.push(USAGE),
+        Status::BadConfig { kind, index } => put_bad_config(*kind, *index, to),
         Status::BadBook { line, kind } => put_bad_book(*line, *kind, to),
+        Status::SessionCount { given, wanted } => put_session_count(*given, *wanted, to),
         Status::TooLong(object) => {
             put_object(*object, to);
             to.push(b" too long");
@@ -76,6 +82,7 @@ fn put_object(object: Object, to: &mut Line)
     ensures short { length to.new ≤ length to.old + 32 }
 {
     match object {
+        Object::Config => to.push(b"config"),
         Object::Book => to.push(b"book"),
         Object::Stream => to.push(b"stream"),
         Object::Session(session) => put_session(session, to),
@@ -100,19 +107,65 @@ fn put_bad_book(line: u32, kind: BookKind, to: &mut Line)
     to.push(b"book line ");
     put_number(u64::from(line), to);
     to.push(b" ");
-    put_kind(kind, to);
+    put_book_kind(kind, to);
 }
 
-fn put_kind(kind: BookKind, to: &mut Line)
+fn put_book_kind(kind: BookKind, to: &mut Line)
     requires { length to.old + 64 ≤ 8192 }
-    ensures text { to.new ≡ to.old ++ kind_text kind }
+    ensures text { to.new ≡ to.old ++ book_kind_text kind }
     ensures short { length to.new ≤ length to.old + 32 }
 {
     match kind {
         BookKind::Syntax => to.push(b"Syntax"),
         BookKind::Session => to.push(b"Session"),
         BookKind::Iface => to.push(b"Iface"),
+        BookKind::Rounds => to.push(b"Rounds"),
     }
+}
+
+fn put_bad_config(kind: ConfigKind, index: u32, to: &mut Line)
+    requires { length to.old + 512 ≤ 8192 }
+    ensures text { to.new ≡ to.old ++ status_text (Status.BadConfig kind index) }
+    ensures short { length to.new ≤ length to.old + 128 }
+{
+    to.push(b"config ");
+    put_config_kind(kind, to);
+    to.push(b" at ");
+    put_number(u64::from(index), to);
+}
+
+fn put_config_kind(kind: ConfigKind, to: &mut Line)
+    requires { length to.old + 64 ≤ 8192 }
+    ensures text { to.new ≡ to.old ++ config_kind_text kind }
+    ensures short { length to.new ≤ length to.old + 32 }
+{
+    match kind {
+        ConfigKind::NotToml => to.push(b"NotToml"),
+        ConfigKind::UnknownKey => to.push(b"UnknownKey"),
+        ConfigKind::Interfaces => to.push(b"Interfaces"),
+        ConfigKind::TooManyInterfaces => to.push(b"TooManyInterfaces"),
+        ConfigKind::Number => to.push(b"Number"),
+        ConfigKind::Repeat => to.push(b"Repeat"),
+        ConfigKind::Role => to.push(b"Role"),
+        ConfigKind::Mode => to.push(b"Mode"),
+        ConfigKind::Sessions => to.push(b"Sessions"),
+        ConfigKind::TooManySessions => to.push(b"TooManySessions"),
+        ConfigKind::Interface => to.push(b"Interface"),
+        ConfigKind::PeerAs => to.push(b"PeerAs"),
+        ConfigKind::Hold => to.push(b"Hold"),
+        ConfigKind::MaxPrefixes => to.push(b"MaxPrefixes"),
+    }
+}
+
+fn put_session_count(given: u32, wanted: u32, to: &mut Line)
+    requires { length to.old + 512 ≤ 8192 }
+    ensures text { to.new ≡ to.old ++ status_text (Status.SessionCount given wanted) }
+    ensures short { length to.new ≤ length to.old + 128 }
+{
+    put_number(u64::from(given), to);
+    to.push(b" sessions given, ");
+    put_number(u64::from(wanted), to);
+    to.push(b" wanted");
 }
 
 /// Appends the message that is named by its place.

@@ -1,16 +1,16 @@
 //! What command lines ask for, and what statuses say and end the program with.
-use crate::tests::runs::words;
+use crate::tests::inputs::words;
 use runbook::BookKind;
 use std::process::Abort;
 use urpf_base::{Addr, Line};
 use urpf_cli::{
-    Command, Status, asks_offline, assigned_numbers, exit_code, one_run_text, put_status,
-    read_command,
+    Command, Status, exit_code, feed_names, one_opening, one_output, one_refusal_status,
+    one_run_text, put_status, read_command, text_limits,
 };
 
 /// Statuses that no file brings about, the line of each on standard error, and the number that the
 /// program ends with.
-const STATUSES: [(Status, &str, u8); 4] = [
+const STATUSES: &[(Status, &str, u8)] = &[
     (
         Status::BadBook {
             line: 4_294_967_295,
@@ -20,73 +20,66 @@ const STATUSES: [(Status, &str, u8); 4] = [
         4,
     ),
     (
+        Status::SessionCount {
+            given: 4_294_967_295,
+            wanted: 128,
+        },
+        "urpf: 4294967295 sessions given, 128 wanted\n",
+        5,
+    ),
+    (
         Status::ItemLimit { session: 0 },
         "urpf: session 0 at item limit\n",
         11,
     ),
     (
-        Status::OctetLimit {
-            session: 4_294_967_295,
-        },
-        "urpf: session 4294967295 at octet limit\n",
+        Status::OctetLimit { session: 127 },
+        "urpf: session 127 at octet limit\n",
         11,
     ),
     (Status::OutOfMemory, "urpf: out of memory\n", 16),
 ];
 
-/// That the status is told so, and ends the program so.
-fn is_told(rt: &impl Abort, status: Status, text: &str, exit: u8) {
-    let mut line = Line::new();
-    put_status(&status, &mut line);
-    assert_eq!(rt; line.bytes(), text.as_bytes());
-    assert_eq!(rt; exit_code(&status), exit, "with {text}");
-}
-
-/// That each status is told so.
+/// That each status is told so, and ends the program so.
 fn are_told(rt: &impl Abort, rows: &[(Status, &str, u8)]) {
     for row in rows {
         let (status, text, exit) = *row;
-        is_told(rt, status, text, exit);
+        let mut line = Line::new();
+        put_status(&status, &mut line);
+        assert_eq!(rt; line.bytes(), text.as_bytes());
+        assert_eq!(rt; exit_code(&status), exit, "with {text}");
     }
 }
 
 #[test]
 fn a_status_has_its_text_and_its_number(rt: HostRuntime) {
-    assigned_numbers();
+    text_limits();
+    one_opening();
+    one_refusal_status();
     one_run_text();
-    are_told(&rt, &STATUSES);
+    one_output();
+    are_told(&rt, STATUSES);
 }
 
-/// Words of command lines, and what they ask for.
-const COMMANDS: [(&[&str], Option<Command>); 9] = [
-    (&[], None),
-    (&["offline", "book", "trace"], Some(Command::Offline)),
-    (&["offline", "book"], None),
-    (&["offline", "book", "trace", "trace"], None),
-    (&["Offline", "book", "trace"], None),
-    (
-        &["check", "session", "198.51.100.9"],
-        Some(Command::Check {
-            source: Addr::V4(0xC633_6409),
-        }),
-    ),
-    (&["check", "session", "198.51.100.09"], None),
-    (&["check", "book", "trace"], None),
-    (&["check", "198.51.100.9"], None),
-];
-
-/// That the words of each row ask for its command.
-fn ask_for(rt: &(impl Abort + AllocGlobal), rows: &[(&[&str], Option<Command>)]) {
-    for row in rows {
-        let (line, wanted) = *row;
-        let words = words(rt, line);
-        assert_eq!(rt; read_command(&words), wanted, "of {words:?}");
-        let offline = wanted == Some(Command::Offline);
-        assert_eq!(rt; asks_offline(&words), offline, "of {words:?}");
+/// The names and the source that the words ask for, and nothing where they fit no form.
+fn asked(words: &[String]) -> (&str, &str, Option<Addr>) {
+    match read_command(words) {
+        Some(Command::Check { session, source }) => (session, "", Some(source)),
+        Some(Command::Offline { config, book, .. }) => (config, book, None),
+        None => ("", "", None),
     }
 }
 
 #[test]
 fn words_ask_for_a_command_or_fit_none(rt: HostRuntime) {
-    ask_for(&rt, &COMMANDS);
+    let line = words(&rt, &["check", "a", "198.51.100.9"]);
+    assert_eq!(rt; asked(&line), ("a", "", Some(Addr::V4(0xC633_6409))));
+    assert_eq!(rt; feed_names(&line).sessions.len(), 0);
+    let line = words(&rt, &["offline", "a", "b", "none", "c", "d"]);
+    assert_eq!(rt; asked(&line), ("a", "b", None));
+    assert_eq!(rt; feed_names(&line).sessions.len(), 2);
+    assert_eq!(rt; feed_names(&line).packets.len(), 0);
+    let line = words(&rt, &["offline", "a", "b", "vrp:c", "d"]);
+    assert_eq!(rt; asked(&line), ("", "", None));
+    assert_eq!(rt; feed_names(&line).sessions.len(), 0);
 }

@@ -1,26 +1,25 @@
 use Rattle.std.proofs.Common.{map, inl, refl, arith}
 use Rattle.std.specs.Prelude.{string_bytes}
 use Rattle.urpf_cli.specs.CheckOne.{judged, misused}
-use Rattle.urpf_cli.specs.declared.words.Command.TheVariants.{Check}
 use Rattle.urpf_cli.proofs.CheckEnds.{end_found, end_only, fault_known, fault_only, front_written, line_judged}
 use Rattle.urpf_cli.proofs.CheckEnds.{line_written, misuse_told}
 use Rattle.urpf_cli.proofs.check.check_one.Goals as goal
 
-pub returns-in_default-2-clause-usage : goal.returns-in_default-2-clause-usage
-returns-in_default-2-clause-usage g c =
-    (λ _ source fit. let only = c.read_command.ensures.only (Check source) fit in cc, λ _. refl)
+pub returns-in_default-clause-usage : goal.returns-in_default-clause-usage
+returns-in_default-clause-usage g c =
+    (λ _ source fit. let only = c.check_source.ensures.only source fit in cc, λ _. refl)
 
-pub returns-in_default-2-clause-found : goal.returns-in_default-2-clause-found
-returns-in_default-2-clause-found g c = λ end is never.
+pub returns-in_default-clause-found : goal.returns-in_default-clause-found
+returns-in_default-clause-found g c = λ end is never.
     end_found (map string_bytes c.args.words.now) (g.S.Source.left c.args.session.now) misused end
     (misuse_told (map string_bytes c.args.words.now) (g.S.Source.left c.args.session.now)
-    (λ source fit. let only = c.read_command.ensures.only (Check source) fit in cc)) is
+    (λ source fit. let only = c.check_source.ensures.only source fit in cc)) is
 
-pub returns-in_default-2-clause-only : goal.returns-in_default-2-clause-only
-returns-in_default-2-clause-only g c = λ end told read written.
+pub returns-in_default-clause-only : goal.returns-in_default-clause-only
+returns-in_default-clause-only g c = λ end told read written.
     inl (end_only (map string_bytes c.args.words.now) (g.S.Source.left c.args.session.now) misused end
     (misuse_told (map string_bytes c.args.words.now) (g.S.Source.left c.args.session.now)
-    (λ source fit. let only = c.read_command.ensures.only (Check source) fit in cc)) told)
+    (λ source fit. let only = c.check_source.ensures.only source fit in cc)) told)
 
 pub returns-in-Err-clause-known : goal.returns-in-Err-clause-known
 returns-in-Err-clause-known g c = fault_known c.in-Ok.stream.items c.in-Err.fault c.status_of.result c.status_of.ensures
@@ -28,8 +27,8 @@ returns-in-Err-clause-known g c = fault_known c.in-Ok.stream.items c.in-Err.faul
 pub returns-in-Err-clause-only : goal.returns-in-Err-clause-only
 returns-in-Err-clause-only g c = λ end told read written.
     fault_only (map string_bytes c.args.words.now) (g.S.Source.left c.args.session.now) c.in-Ok.stream.items
-    c.in-Some-Check.source c.in-Err.fault end c.status_of.result c.status_of.ensures c.in-Ok.ensures.whole
-    (rw c.in-Some-Check.field-0-is at c.in-Some-Check.ensures.found)
+    c.in-Some.source c.in-Err.fault end c.status_of.result c.status_of.ensures c.in-Ok.ensures.whole
+    c.in-Some.ensures.found
     (omega (arith, c.in-Ok.stream.ok.0, c.in-Ok.ensures.within))
     (rw c.deref.ensures.value at c.in-Err.ensures.err) told
 
@@ -37,8 +36,8 @@ pub returns-in-Ok-write_all-clause-found : goal.returns-in-Ok-write_all-clause-f
 returns-in-Ok-write_all-clause-found g c = λ end is never.
     end_found (map string_bytes c.args.words.now) (g.S.Source.left c.args.session.now) judged end
     (line_judged (map string_bytes c.args.words.now) (g.S.Source.left c.args.session.now) c.in-Ok.stream.items
-    c.in-Some-Check.source c.judge.new.line c.in-Ok.ensures.whole
-    (rw c.in-Some-Check.field-0-is at c.in-Some-Check.ensures.found)
+    c.in-Some.source c.judge.new.line c.in-Ok.ensures.whole
+    c.in-Some.ensures.found
     (omega (arith, c.in-Ok.stream.ok.0, c.in-Ok.ensures.within))
     (rw c.deref.ensures.value at c.in-Ok-judge.ensures.ok)) is
 
@@ -46,16 +45,16 @@ pub returns-in-Ok-write_all-clause-only : goal.returns-in-Ok-write_all-clause-on
 returns-in-Ok-write_all-clause-only g c = λ end told read written.
     inl (end_only (map string_bytes c.args.words.now) (g.S.Source.left c.args.session.now) judged end
     (line_judged (map string_bytes c.args.words.now) (g.S.Source.left c.args.session.now) c.in-Ok.stream.items
-    c.in-Some-Check.source c.judge.new.line c.in-Ok.ensures.whole
-    (rw c.in-Some-Check.field-0-is at c.in-Some-Check.ensures.found)
+    c.in-Some.source c.judge.new.line c.in-Ok.ensures.whole
+    c.in-Some.ensures.found
     (omega (arith, c.in-Ok.stream.ok.0, c.in-Ok.ensures.within))
     (rw c.deref.ensures.value at c.in-Ok-judge.ensures.ok)) told)
 
 pub returns-in-Ok-write_all-clause-done : goal.returns-in-Ok-write_all-clause-done
 returns-in-Ok-write_all-clause-done g c = λ done.
     line_written (map string_bytes c.args.words.now) (g.S.Source.left c.args.session.now) c.in-Ok.stream.items
-    c.in-Some-Check.source c.judge.new.line (g.K.Sink.held c.args.out.now) (g.K.Sink.held c.write_all.new.sink)
-    c.in-Ok.ensures.whole (rw c.in-Some-Check.field-0-is at c.in-Some-Check.ensures.found)
+    c.in-Some.source c.judge.new.line (g.K.Sink.held c.args.out.now) (g.K.Sink.held c.write_all.new.sink)
+    c.in-Ok.ensures.whole c.in-Some.ensures.found
     (rw c.deref.ensures.value at c.in-Ok-judge.ensures.ok)
     (rw c.bytes.ensures at c.in-Ok-write_all.ensures.ok)
 
@@ -63,7 +62,7 @@ pub returns-clause-cut_short : goal.returns-clause-cut_short
 returns-clause-cut_short g c = λ fault.
     let cut = rw c.bytes.ensures at c.in-Err-write_all.ensures.err in
     front_written (map string_bytes c.args.words.now) (g.S.Source.left c.args.session.now) c.in-Ok.stream.items
-    c.in-Some-Check.source c.judge.new.line cut.0 (g.K.Sink.held c.args.out.now)
+    c.in-Some.source c.judge.new.line cut.0 (g.K.Sink.held c.args.out.now)
     (g.K.Sink.held c.write_all.new.sink) c.in-Ok.ensures.whole
-    (rw c.in-Some-Check.field-0-is at c.in-Some-Check.ensures.found)
+    c.in-Some.ensures.found
     (rw c.deref.ensures.value at c.in-Ok-judge.ensures.ok) cut.2

@@ -1,7 +1,7 @@
 use Rattle.std.proofs.Common.{length, arith}
 use Rattle.adj_rib.specs.Routes.{prefixes_of}
 use Rattle.adj_rib.proofs.Routes.{is_distinct}
-use Rattle.urpf_cli.proofs.Lines.{has_left, line_of}
+use Rattle.urpf_cli.proofs.CheckLines.{has_left, line_of}
 use Rattle.urpf_cli.proofs.Streams.{say-length}
 use Rattle.urpf_cli.proofs.check.judge.Goals as goal
 

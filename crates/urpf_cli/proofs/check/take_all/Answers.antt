@@ -1,4 +1,4 @@
-use Rattle.urpf_cli.proofs.Lines.{held_more}
+use Rattle.urpf_cli.proofs.CheckLines.{held_more}
 use Rattle.urpf_cli.proofs.check.take_all.Goals as goal
 
 pub loop-item-preserved : goal.loop-item-preserved

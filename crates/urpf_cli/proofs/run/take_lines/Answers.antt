@@ -1,36 +1,98 @@
-use Rattle.std.proofs.Common.{◌∙◌, arith, take}
-use Rattle.urpf_cli.specs.RunText.{opening, position_after}
-use Rattle.urpf_cli.specs.Runs.{lines_in, total}
-use Rattle.urpf_cli.proofs.Limiting.{line_limited}
-use Rattle.urpf_cli.proofs.Runs.{at_more, texts_more, texts_stop}
+use Rattle.std.proofs.Common.{◌∙◌, ℕ, Ok, Err, arith, length, map, refl, subst, sym, take}
+use Rattle.std.proofs.lemmas.List.{length-map}
+use Rattle.runbook.specs.Book.{IsConfiguredFor}
+use Rattle.runbook.specs.declared.lines.BookLine.{BookLine}
+use Rattle.urpf_cli.specs.Places.{opening, place_after}
+use Rattle.urpf_cli.specs.Runs.{RanSteps}
+use Rattle.urpf_cli.specs.Steps.{lines_in, steps_in, steps_of}
+use Rattle.urpf_cli.proofs.Composing.{no_steps}
+use Rattle.urpf_cli.proofs.FeedFaults.{each_none, each_then, well_read}
+use Rattle.urpf_cli.proofs.LinesTaken.{all_at, lines_all, lines_next, lines_stop}
 use Rattle.urpf_cli.proofs.run.take_lines.Goals as goal
 
+pub loop-k-init : goal.loop-k-init
+loop-k-init g c = record {
+  within = omega arith;
+  ran = λ run s.
+      no_steps run (opening run.config.sessions) c.args.control.now 0 (map g.F.Feed.left c.args.feeds.now.items)
+      (g.K.Sink.held c.args.out.now) s;
+  serves = λ config serves. serves;
+  peers = refl;
+  edits = omega (arith, c.requires.edits);
+  number = omega (arith, c.requires.number);
+  rounds = omega arith;
+  feeds = each_none g.F.Feed.faults (λ s. ⊥) c.args.feeds.now.items (λ s never. never);
+  out = refl;
+}
+
+pub take_line-requires-clause-serves : goal.take_line-requires-clause-serves
+take_line-requires-clause-serves g c = (
+  c.requires.serves.0,
+  c.loop-k.invariant.serves c.requires.serves.0 c.requires.serves.1,
+  all_at (λ (row : ℕ × BookLine). IsConfiguredFor c.requires.serves.0 row.1) c.args.book.now c.loop-k.k
+      c.line-line.result c.requires.serves.2 c.line-line.ensures,
+)
+
 pub returns-in-Err-clause-ran : goal.returns-in-Err-clause-ran
-returns-in-Err-clause-ran g c = λ run is.
-    let at = position_after (total run) (take c.loop-k.k (lines_in c.args.book.now)) opening in
-    let ran = c.in-Err.ensures.ran run at (c.loop-k.invariant.at run is) in (
-      texts_stop run.inputs c.args.book.now c.loop-k.k c.line-line.result (g.K.Sink.held c.args.out.now)
-          (g.K.Sink.held c.loop-k.out) (g.K.Sink.held c.take_line.new.out) c.line-line.ensures
-          (c.loop-k.invariant.texts run is) ran.0,
-      line_limited run.all (total run) c.args.book.now c.loop-k.k c.line-line.result
-          (g.F.Feed.left c.take_line.new.feed) c.in-Err.fault c.line-line.ensures ran.1,
+returns-in-Err-clause-ran g c = λ run s.
+    let sessions : ℕ = length c.args.control.now.peers in
+    let ran = c.loop-k.invariant.ran run s in
+    let place = place_after run.inputs (steps_of sessions (take c.loop-k.k (lines_in c.args.book.now)))
+    (opening run.config.sessions) in (
+      c.take_line.new.rounds,
+      lines_stop run (opening run.config.sessions) sessions c.args.book.now c.loop-k.k c.line-line.result c.in-Err.fault
+          c.loop-k.control c.take_line.new.control c.loop-k.rounds c.take_line.new.rounds
+          (map g.F.Feed.left c.loop-k.feeds.items) (map g.F.Feed.left c.take_line.new.feeds.items)
+          (g.K.Sink.held c.args.out.now) (g.K.Sink.held c.loop-k.out) (g.K.Sink.held c.take_line.new.out)
+          c.line-line.ensures ran
+          (subst (λ (n : ℕ). RanSteps run place (steps_in n c.line-line.result.1) (Err c.in-Err.fault)
+          c.take_line.new.control c.take_line.new.rounds (map g.F.Feed.left c.take_line.new.feeds.items)
+          (g.K.Sink.held c.loop-k.out) (g.K.Sink.held c.take_line.new.out)) c.loop-k.invariant.peers
+          (c.in-Err.ensures.ran run place ran.1)),
     )
 
+pub returns-in-Err-clause-feeds : goal.returns-in-Err-clause-feeds
+returns-in-Err-clause-feeds g c =
+    each_then g.F.Feed.faults _ c.args.feeds.now.items c.loop-k.feeds.items c.take_line.new.feeds.items
+    c.loop-k.invariant.feeds c.in-Err.ensures.feeds
+
 pub loop-k-preserved : goal.loop-k-preserved
-loop-k-preserved g c = record {
-  within = omega (arith, c.loop-k-test.true, c.len.ensures);
-  at = λ run is.
-      let at = position_after (total run) (take c.loop-k.k (lines_in c.args.book.now)) opening in
-      at_more run c.args.book.now c.loop-k.k c.line-line.result c.take_line.new.control
-      (g.F.Feed.left c.take_line.new.feed) c.line-line.ensures
-      (c.in_default.ensures.ran run at (c.loop-k.invariant.at run is)).1;
-  texts = λ run is.
-      let at = position_after (total run) (take c.loop-k.k (lines_in c.args.book.now)) opening in
-      texts_more run.inputs c.args.book.now c.loop-k.k c.line-line.result (g.K.Sink.held c.args.out.now)
-      (g.K.Sink.held c.loop-k.out) (g.K.Sink.held c.take_line.new.out) c.line-line.ensures
-      (c.loop-k.invariant.texts run is) (c.in_default.ensures.ran run at (c.loop-k.invariant.at run is)).0;
-  number = omega (arith, c.loop-k.invariant.number, c.take_line.ensures.number);
-  session = c.take_line.ensures.session ∙ c.loop-k.invariant.session;
-  feed = c.in_default.ensures.feed.kept (λ failed. cc) ∙ c.loop-k.invariant.feed;
-  out = c.in_default.ensures.sink.kept (λ failed. cc) ∙ c.loop-k.invariant.out;
-}
+loop-k-preserved g c =
+    let serves = c.in_default.ensures.serves c.requires.serves.0
+    (c.loop-k.invariant.serves c.requires.serves.0 c.requires.serves.1) in
+    record {
+      within = omega (arith, c.loop-k-test.true, c.len.ensures);
+      ran = λ run s.
+          let sessions : ℕ = length c.args.control.now.peers in
+          let ran = c.loop-k.invariant.ran run s in
+          let place = place_after run.inputs (steps_of sessions (take c.loop-k.k (lines_in c.args.book.now)))
+          (opening run.config.sessions) in
+          lines_next run (opening run.config.sessions) sessions c.args.book.now c.loop-k.k c.line-line.result
+          c.loop-k.control c.take_line.new.control c.loop-k.rounds c.take_line.new.rounds
+          (map g.F.Feed.left c.loop-k.feeds.items) (map g.F.Feed.left c.take_line.new.feeds.items)
+          (g.K.Sink.held c.args.out.now) (g.K.Sink.held c.loop-k.out) (g.K.Sink.held c.take_line.new.out)
+          c.line-line.ensures ran
+          (subst (λ (n : ℕ). RanSteps run place (steps_in n c.line-line.result.1) (Ok tt)
+          c.take_line.new.control c.take_line.new.rounds (map g.F.Feed.left c.take_line.new.feeds.items)
+          (g.K.Sink.held c.loop-k.out) (g.K.Sink.held c.take_line.new.out)) c.loop-k.invariant.peers
+          (c.in_default.ensures.ran run place ran.1));
+      serves = λ config is. c.in_default.ensures.serves config (c.loop-k.invariant.serves config is);
+      peers = serves.sessions ∙ sym c.requires.serves.1.sessions;
+      edits = omega (arith, c.in_default.ensures.counts.edits, c.loop-k.invariant.edits);
+      number = omega (arith, c.in_default.ensures.counts.number, c.loop-k.invariant.number);
+      rounds = omega (arith, c.in_default.ensures.rounds, c.loop-k.invariant.rounds);
+      feeds = each_then g.F.Feed.faults (λ s. ⊥) c.args.feeds.now.items c.loop-k.feeds.items
+          c.take_line.new.feeds.items c.loop-k.invariant.feeds
+          (well_read g.F.Feed.faults tt c.loop-k.feeds.items c.take_line.new.feeds.items c.in_default.ensures.feeds);
+      out = c.in_default.ensures.sink.kept (λ failed. cc) ∙ c.loop-k.invariant.out;
+    }
+
+pub returns-clause-ran : goal.returns-clause-ran
+returns-clause-ran g c = λ run s. (
+  c.loop-k.rounds,
+  lines_all run (opening run.config.sessions) (length c.args.control.now.peers) c.args.book.now c.loop-k.k
+      c.loop-k.control c.loop-k.rounds (map g.F.Feed.left c.loop-k.feeds.items) (g.K.Sink.held c.args.out.now)
+      (g.K.Sink.held c.loop-k.out)
+      (omega (arith, c.loop-k-test.false, c.len.ensures, length-map c.args.book.now (λ (r : ℕ × BookLine). r.1)))
+      (c.loop-k.invariant.ran run s),
+)

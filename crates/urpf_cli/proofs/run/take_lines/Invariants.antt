@@ -1,19 +1,27 @@
-use Rattle.std.proofs.Common.{◌≡◌, ◌-◌, ◌≤◌, length, take}
-use Rattle.urpf_cli.specs.RunText.{opening, position_after}
-use Rattle.urpf_cli.specs.Runs.{AreTexts, IsAt, Run, TookAll, lines_in, total}
+use Rattle.std.proofs.Common.{◌≡◌, ◌-◌, ◌≤◌, Ok, length, map, take}
+use Rattle.router_config.specs.Settings.{Settings}
+use Rattle.control_core.specs.Worlds.{last_number}
+use Rattle.urpf_cli.specs.Inputs.{Run}
+use Rattle.urpf_cli.specs.Places.{opening}
+use Rattle.urpf_cli.specs.Runs.{CountEach, IsAt, RanSteps, Serves}
+use Rattle.urpf_cli.specs.Steps.{lines_in, steps_of}
 use Rattle.urpf_cli.proofs.run.take_lines.Given as goal
 
 -- the first lines were taken, and what they gave was written
 abbrev pub invariant-loop-k : goal.invariant-loop-k
 invariant-loop-k g l = record {
   within : l.k ≤ length l.book;
-  at : (run : Run) → IsAt run opening l.initial.control (g.F.Feed.left l.initial.feed)
-      → IsAt run (position_after (total run) (take l.k (lines_in l.book)) opening) l.control (g.F.Feed.left l.feed);
-  texts : (run : Run) → IsAt run opening l.initial.control (g.F.Feed.left l.initial.feed)
-      → TookAll (AreTexts run.inputs (take l.k (lines_in l.book))) (g.K.Sink.held l.initial.out) (g.K.Sink.held l.out);
-  number : l.control.number ≤ l.k;
-  session : l.control.peer.number ≡ 0;
-  feed : g.F.Feed.faults l.feed ≡ g.F.Feed.faults l.initial.feed;
+  ran : (run : Run)
+      → IsAt run (opening run.config.sessions) l.initial.control 0 (map g.F.Feed.left l.initial.feeds.items)
+      → RanSteps run (opening run.config.sessions)
+      (steps_of (length l.initial.control.peers) (take l.k (lines_in l.book))) (Ok tt) l.control l.rounds
+      (map g.F.Feed.left l.feeds.items) (g.K.Sink.held l.initial.out) (g.K.Sink.held l.out);
+  serves : (config : Settings) → Serves config l.initial.control → Serves config l.control;
+  peers : length l.control.peers ≡ length l.initial.control.peers;
+  edits : l.control.edits ≤ l.k;
+  number : last_number l.control.marks ≤ l.k;
+  rounds : l.rounds ≤ l.k;
+  feeds : CountEach g.F.Feed.faults (λ s. ⊥) l.initial.feeds.items l.feeds.items;
   out : g.K.Sink.faults l.out ≡ g.K.Sink.faults l.initial.out;
 }
 

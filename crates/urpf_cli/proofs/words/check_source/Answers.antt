@@ -1,19 +1,17 @@
-use Rattle.std.proofs.Common.{List, ℕ, ◌∷◌, [], ◌∙◌, ap, map, sym}
-use Rattle.std.specs.Prelude.{codes, string_bytes}
-use Rattle.urpf_cli.proofs.Lines.{three_items, not_unequal}
+use Rattle.std.proofs.Common.{Option, Some, None, refl, ap}
+use Rattle.urpf_base.specs.declared.address.Addr.{Addr}
+use Rattle.urpf_cli.specs.Words.{Request, check, offline}
 use Rattle.urpf_cli.proofs.words.check_source.Goals as goal
 
-pub returns-clause-found : goal.returns-clause-found
-returns-clause-found c =
-    let session = string_bytes c._session-item.result in
-    let source = string_bytes c.source-item.result in
-    let command = sym c.as_str.ensures.value ∙ not_unequal c.as_str.result.now (codes "check") c.if-ne.ensures in
-    record {
-      session = session;
-      text = source;
-      parts = ap (map string_bytes)
-          (three_items c.args.words.now c.command-item.result c._session-item.result c.source-item.result
-          c.in-len3.len_at_least c.in-len3.len_below c.command-item.is c._session-item.is c.source-item.is)
-          ∙ ap (λ (w : List ℕ). w ∷ session ∷ source ∷ []) command;
-      spelled = rw c.as_bytes.ensures.value at c.in-Some.ensures.found;
-    }
+-- the source that is asked for
+source_of : Request → Option Addr
+source_of (check session source) = Some source
+source_of (offline config book sessions) = None
+
+pub returns-in-Some-Check-clause-only : goal.returns-in-Some-Check-clause-only
+unfolding source_of
+returns-in-Some-Check-clause-only c = λ a are.
+    ap source_of (rw c.in-Some-Check.field-0-is at c.in-Some-Check.ensures.only (check are.session a) (are, refl))
+
+pub returns-in-None-clause-only : goal.returns-in-None-clause-only
+returns-in-None-clause-only c = λ a are. absurd (c.in-None.ensures.only (check are.session a) (are, refl))

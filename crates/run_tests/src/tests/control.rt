@@ -1,0 +1,218 @@
+//! The calls of a control of one session, over the plain engine and over one that wants memory.
+ghost use Rattle.std.specs.Prelude.{◌≡◌, ◌≤◌, length};
+ghost use Rattle.control_core.specs.declared.limits.TheConstants.{ITEM_LIMIT, OCTET_LIMIT};
+ghost use Rattle.rpf_plain.specs.Engine.{new_engine};
+ghost use Rattle.rpf_plain.specs.World.{roles_of};
+
+use crate::tests::inputs::{Event, FULL, ONE_CUSTOMER, feed, sink};
+use control_core::{
+    Control, ITEM_LIMIT, Limits, OCTET_LIMIT, RunFault, assigned_limits, cuts_do_not_count,
+    items_of_a_front, one_list_of_items, one_more_update, one_rest, one_run,
+};
+use feed_io::MemFeed;
+use message_octets::{KEEPALIVE, OPEN, TWO_PREFIXES};
+use router_config::{Config, Edit, read_config};
+use rpf_plain::{PlainEngine, SetEngine};
+use std::process::Abort;
+use urpf_base::{
+    Addr, Cell, Changes, IfaceId, Line, Mode, Origin, OutOfMemory, Prefix, Role, Verdict,
+};
+
+/// A session that is pulled to its end within these limits, what comes of the pull, and a publication
+/// behind it.
+#[derive(Clone, Copy)]
+struct Pulled {
+    limits: Limits,
+    events: &'static [Event<'static>],
+    result: Result<(), RunFault>,
+    text: &'static str,
+    summary: &'static str,
+    /// The number of the publication, and how many cells it changed.
+    published: Result<(u64, u64), OutOfMemory>,
+    /// The items that the session took at the last publication.
+    items: u64,
+    /// Whether a source of 198.51.100.0/24 passes then.
+    verdict: Verdict,
+}
+
+/// A full session, which has one route.
+const ONE_ROUTE: Pulled = Pulled {
+    limits: Limits {
+        items: ITEM_LIMIT,
+        octets: OCTET_LIMIT,
+    },
+    events: FULL,
+    result: Ok(()),
+    text: "end 0 items 4 rest 0\n",
+    summary: "summary rows 1 pairs 0\n",
+    published: Ok((1, 1)),
+    items: 4,
+    verdict: Verdict::Pass,
+};
+
+/// More items than the limit.
+const FOUR_ITEMS_OF_THREE: Pulled = Pulled {
+    limits: Limits {
+        items: 3,
+        octets: 1000,
+    },
+    result: Err(RunFault::ItemLimit(0)),
+    text: "",
+    summary: "summary rows 0 pairs 0\n",
+    published: Ok((1, 0)),
+    items: 3,
+    verdict: Verdict::Drop,
+    ..ONE_ROUTE
+};
+
+const PULLED: &[Pulled] = &[
+    ONE_ROUTE,
+    FOUR_ITEMS_OF_THREE,
+    // The OPEN has 37 octets, and the KEEPALIVE 19.
+    Pulled {
+        limits: Limits {
+            items: 1000,
+            octets: 56,
+        },
+        result: Err(RunFault::OctetLimit(0)),
+        ..FOUR_ITEMS_OF_THREE
+    },
+];
+
+/// An UPDATE of two prefixes, over an engine that has room for one.
+const TWO_ROUTES_IN_THE_ROOM_OF_ONE: Pulled = Pulled {
+    events: &[
+        Event::Up,
+        Event::Octets(&OPEN),
+        Event::Octets(&KEEPALIVE),
+        Event::Octets(&TWO_PREFIXES),
+    ],
+    result: Err(RunFault::OutOfMemory),
+    text: "",
+    summary: "summary rows 0 pairs 0\n",
+    published: Err(OutOfMemory),
+    items: 0,
+    verdict: Verdict::Drop,
+    ..ONE_ROUTE
+};
+
+/// A configuration with one session, and an engine of its interfaces.
+fn configured(rt: &(impl Abort + AllocGlobal)) -> (Config, PlainEngine)
+    ensures engine { result.1 ≡ new_engine (roles_of result.0.interfaces) }
+    ensures sessions { length result.0.sessions ≡ 1 }
+{
+    let Ok(config) = read_config(rt.alloc(), ONE_CUSTOMER.as_bytes()) else {
+        panic!(rt; "no configuration");
+    };
+    assert_eq!(rt; config.sessions(), 1);
+    let kinds = config.kinds().expect(rt, "memory");
+    let engine = PlainEngine::new(rt.alloc(), &kinds).expect(rt, "memory");
+    (config, engine)
+}
+
+/// A list of this feed.
+fn only(rt: &(impl Abort + AllocGlobal), feed: MemFeed) -> Vec<MemFeed>
+    ensures { length result.items ≡ 1 }
+{
+    let mut feeds = Vec::new(rt.alloc());
+    feeds.push(feed).expect(rt, "memory");
+    feeds
+}
+
+/// That this comes of a control over the engine, once it took an edit that changes nothing.
+fn comes<E: SetEngine>(rt: &(impl Abort + AllocGlobal), config: Config, engine: E, row: &Pulled)
+    requires engine { E.state engine ≡ new_engine (roles_of config.interfaces) }
+    requires sessions { length config.sessions ≡ 1 }
+{
+    assert!(rt; row.limits.items <= ITEM_LIMIT && row.limits.octets <= OCTET_LIMIT);
+    let iface = IfaceId::new(0).expect(rt, "an interface");
+    assert!(rt; config.kind(iface).is_some());
+    let mut control = Control::new(rt.alloc(), engine, config, row.limits).expect(rt, "memory");
+    let edit = Edit::Mode(iface, Mode::Feasible);
+    control.edit(&edit).expect(rt, "memory");
+    let mut out = sink(rt, &[]);
+    let mut feeds = only(rt, feed(rt, row.events, &[]));
+    let result = control.pull(&mut feeds, 0, None, &mut out);
+    assert_eq!(rt; result, row.result);
+    assert_eq!(rt; out.held(), row.text.as_bytes());
+    let mut line = Line::new();
+    control.put_summary(&mut line);
+    assert_eq!(rt; line.bytes(), row.summary.as_bytes());
+    assert_eq!(rt; control.publish(), row.published);
+    assert_eq!(rt; control.judge(iface, &Addr::V4(0xC633_6409)), row.verdict);
+    let number = control.number();
+    for mark in control.marks().items() {
+        if mark.number() == number && number > 0 {
+            assert_eq!(rt; mark.edits(), 1);
+            assert_eq!(rt; mark.items(), [row.items].as_slice());
+        }
+    }
+}
+
+/// That these come of a control over the plain engine.
+fn come(rt: &(impl Abort + AllocGlobal), rows: &[Pulled]) {
+    for row in rows {
+        let (config, engine) = configured(rt);
+        comes(rt, config, engine, row);
+    }
+}
+
+#[test]
+fn a_session_is_pulled_and_published(rt: HostRuntime) {
+    assigned_limits();
+    one_list_of_items();
+    one_rest();
+    cuts_do_not_count();
+    items_of_a_front();
+    one_run();
+    one_more_update();
+    come(&rt, PULLED);
+}
+
+/// An engine that has room for one row.
+#[derive(Drop)]
+struct SmallEngine {
+    sets: PlainEngine,
+    full: bool,
+}
+
+impl SetEngine for SmallEngine {
+    ghost state = { λ e. e.sets };
+
+    fn add_row(
+        &mut self,
+        iface: IfaceId,
+        prefix: Prefix,
+        origin: Origin,
+    ) -> Result<(), OutOfMemory> {
+        if self.full {
+            return Err(OutOfMemory);
+        }
+        self.full = true;
+        self.sets.add_row(iface, prefix, origin)
+    }
+
+    fn remove_row(&mut self, iface: IfaceId, prefix: &Prefix, origin: Origin) {
+        self.full = false;
+        self.sets.remove_row(iface, prefix, origin);
+    }
+
+    fn set_role(&mut self, iface: IfaceId, role: Role) -> Result<(), OutOfMemory> {
+        self.sets.set_role(iface, role)
+    }
+
+    fn cell(&self, prefix: &Prefix) -> Cell {
+        self.sets.cell(prefix)
+    }
+
+    fn drain_changes(&mut self) -> Result<Changes, OutOfMemory> {
+        self.sets.drain_changes()
+    }
+}
+
+#[test]
+fn an_update_whose_second_row_is_refused_leaves_none(rt: HostRuntime) {
+    let (config, sets) = configured(&rt);
+    let engine = SmallEngine { sets, full: false };
+    comes(&rt, config, engine, &TWO_ROUTES_IN_THE_ROOM_OF_ONE);
+}

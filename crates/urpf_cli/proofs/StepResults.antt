@@ -1,0 +1,191 @@
+-- What the steps of a run that are no pulls give, and where they lead.
+use Rattle.std.proofs.Common.{◌≡◌, ℕ, ◌+◌, false, List, [], ◌∷◌, ◌++◌, length, map, take, Option, refl}
+use Rattle.std.proofs.Common.{sym, ap, subst, ◌∙◌}
+use Rattle.std.specs.List.{AllZip}
+use Rattle.std.proofs.lemmas.List.{take_at}
+use Rattle.std.proofs.lemmas.List.Sums.{sum_by-cons}
+use Rattle.urpf_base.specs.declared.address.Addr.{Addr}
+use Rattle.urpf_base.specs.declared.verdicts.Verdict.{Verdict}
+use Rattle.adj_rib.specs.Routes.{prefixes_of}
+use Rattle.feed_io.specs.Events.{Event}
+use Rattle.report_text.specs.Lines.{check_line, publish_line, summary_line}
+use Rattle.urpf_base.specs.declared.kinds.Kind.{Kind}
+use Rattle.router_config.proofs.Configured.{edited_kind_at}
+use Rattle.router_config.specs.Configured.{IsConfigured}
+use Rattle.router_config.specs.Settings.{Settings}
+use Rattle.router_config.specs.declared.edits.Edit.{Edit}
+use Rattle.session_fsm.specs.declared.items.Effect.{Effect}
+use Rattle.control_core.specs.Controls.{AllStand, ControlStandsFor, Edits, IsVerdictNow, Publishes, PublishesDifference}
+use Rattle.control_core.specs.Controls.{items_of, position_of, route_count}
+use Rattle.control_core.specs.Effects.{HoldsSoMany}
+use Rattle.control_core.specs.States.{ControlState, PeerState}
+use Rattle.control_core.specs.Worlds.{Course, IsWorldAt, Position, last_number}
+use Rattle.control_core.proofs.Held.{holds_so_many}
+use Rattle.control_core.proofs.Publications.{at_most_self}
+use Rattle.urpf_cli.specs.Inputs.{Input, Run}
+use Rattle.urpf_cli.specs.Places.{Place, Reached, mark_at, next_place}
+use Rattle.urpf_cli.specs.RunText.{CheckGives, IsWorldOf, LeaveRoutes, PublishGives, SummaryGives}
+use Rattle.urpf_cli.specs.Runs.{AreSessionsAt, IsAt, Serves}
+use Rattle.urpf_cli.specs.Steps.{change, publish, round}
+use Rattle.urpf_cli.proofs.SessionsAt.{IsFront}
+use Rattle.urpf_cli.proofs.WorldsOf.{fronts_at, mark_reached, mark_same, number_at, one_last, world_whole}
+
+-- what a publication gives
+pub published_gives : (run : Run) (place : Place) (old new : ControlState) (rounds : ℕ)
+    (lefts : List (Option (List Event))) (answer : ℕ × ℕ) (text : List ℕ)
+    → (s : IsAt run place old rounds lefts) → Publishes old new answer
+    → PublishesDifference run.config place.edits s.courses old new answer
+    → text ≡ publish_line answer.0 old.edits answer.1 (items_of old.peers) → PublishGives run place text
+published_gives run place old new rounds lefts answer text s publishes d is =
+    let last : d.last ≡ place.mark = one_last old.marks d.earlier s.earlier d.last place.mark d.marks s.marks in
+    let number : answer.0 ≡ place.mark.number + 1 =
+    publishes.number ∙ ap (λ (n : ℕ). n + 1) (number_at run place old rounds lefts s) in
+    let now : position_of old answer.0 ≡ mark_at place (place.mark.number + 1) =
+    mark_same run place old rounds lefts answer.0 s ∙ ap (mark_at place) number in
+    record {
+      old_kinds = old.published.kinds;
+      old = d.before;
+      was = world_whole run place old rounds lefts place.mark old.published.kinds d.before s
+          (mark_reached run place old rounds lefts s)
+          (subst (λ (mark : Position). IsWorldAt run.config place.edits s.courses mark old.published.kinds d.before)
+          last d.was);
+      new_kinds = new.published.kinds;
+      new = d.after;
+      is = subst (λ (mark : Position). IsWorldOf run place mark new.published.kinds d.after) now
+          (world_whole run place old rounds lefts (position_of old answer.0) new.published.kinds d.after s
+          (at_most_self (items_of old.peers)) d.is);
+      changes = d.changes;
+      difference = d.difference;
+      same = is ∙ ap (λ (n : ℕ). publish_line n old.edits answer.1 (items_of old.peers)) number
+          ∙ ap (λ (n : ℕ). publish_line (place.mark.number + 1) n answer.1 (items_of old.peers)) s.stands.counted
+          ∙ ap (λ (n : ℕ). publish_line (place.mark.number + 1) (length place.edits) n (items_of old.peers)) d.cells
+          ∙ ap (λ (mark : Position). publish_line (place.mark.number + 1) (length place.edits) (length d.changes)
+          mark.items) now;
+    }
+
+-- and where it leads
+pub published_at : (run : Run) (place : Place) (old new : ControlState) (rounds : ℕ)
+    (lefts : List (Option (List Event))) (answer : ℕ × ℕ)
+    → (s : IsAt run place old rounds lefts) → Publishes old new answer
+    → ControlStandsFor run.config place.edits s.courses new → new.exhausted ≡ false
+    → IsAt run (next_place run.inputs publish place) new rounds lefts
+published_at run place old new rounds lefts answer s publishes stands able =
+    let number : answer.0 ≡ place.mark.number + 1 =
+    publishes.number ∙ ap (λ (n : ℕ). n + 1) (number_at run place old rounds lefts s) in
+    record {
+      whole = s.whole;
+      courses = s.courses;
+      stands = stands;
+      sessions = subst (λ (ps : List PeerState). AreSessionsAt run.inputs place.sessions s.courses ps lefts)
+          (sym publishes.peers) s.sessions;
+      earlier = old.marks;
+      marks = publishes.marks
+          ∙ ap (λ (mark : Position). old.marks ++ mark ∷ [])
+          (mark_same run place old rounds lefts answer.0 s ∙ ap (mark_at place) number);
+      limits = publishes.limits ∙ s.limits;
+      able = able;
+      ended = s.ended;
+    }
+
+-- what a check gives
+pub check_gives : (run : Run) (place : Place) (control : ControlState) (rounds : ℕ)
+    (lefts : List (Option (List Event))) (iface : ℕ) (addr : Addr) (verdict : Verdict) (number : ℕ) (text : List ℕ)
+    → (s : IsAt run place control rounds lefts) → IsVerdictNow control s.stands.marked iface addr verdict
+    → number ≡ last_number control.marks → text ≡ check_line iface addr verdict number
+    → CheckGives run place iface addr text
+check_gives run place control rounds lefts iface addr verdict number text s judges is_number is =
+    let last : s.stands.last ≡ place.mark =
+    one_last control.marks s.stands.earlier s.earlier s.stands.last place.mark s.stands.marks s.marks in
+    record {
+      kinds = control.published.kinds;
+      world = s.stands.marked;
+      is = world_whole run place control rounds lefts place.mark control.published.kinds s.stands.marked s
+          (mark_reached run place control rounds lefts s)
+          (subst (λ (mark : Position). IsWorldAt run.config place.edits s.courses mark control.published.kinds
+          s.stands.marked) last s.stands.is_marked);
+      verdict = verdict;
+      judges = judges;
+      same = is
+          ∙ ap (λ (n : ℕ). check_line iface addr verdict n) (is_number ∙ number_at run place control rounds lefts s);
+    }
+
+-- the routes that the sessions have are those that their items leave
+leave_routes : (inputs : List Input) (sessions : List Reached) (courses : List Course) (peers : List PeerState)
+    (lefts : List (Option (List Event))) → AllZip IsFront courses inputs
+    → AreSessionsAt inputs sessions courses peers lefts → AllStand courses peers
+    → LeaveRoutes inputs sessions (route_count peers)
+leave_routes [] [] [] [] [] fronts are stand = refl
+leave_routes [] [] [] [] (l ∷ lefts) fronts are stand = absurd are
+leave_routes [] [] [] (p ∷ peers) lefts fronts are stand = absurd are
+leave_routes [] [] (c ∷ courses) peers lefts fronts are stand = absurd are
+leave_routes [] (a ∷ sessions) courses peers lefts fronts are stand = absurd are
+leave_routes (i ∷ inputs) [] courses peers lefts fronts are stand = absurd are
+leave_routes (i ∷ inputs) (a ∷ sessions) [] peers lefts fronts are stand = absurd are
+leave_routes (i ∷ inputs) (a ∷ sessions) (c ∷ courses) [] lefts fronts are stand = absurd are
+leave_routes (i ∷ inputs) (a ∷ sessions) (c ∷ courses) (p ∷ peers) [] fronts are stand = absurd are
+leave_routes (i ∷ inputs) (a ∷ sessions) (c ∷ courses) (p ∷ peers) (l ∷ lefts) fronts are stand =
+    let front : take a.taken i.course.effects ≡ c.effects =
+    ap (take a.taken) fronts.0.front.parts ∙ take_at c.effects fronts.0.front.later a.taken (sym are.0.taken) in (
+      length (prefixes_of p.routes),
+      route_count peers,
+      subst (λ (es : List Effect). HoldsSoMany es (length (prefixes_of p.routes))) (sym front)
+          (holds_so_many c.effects p.routes stand.1.routes),
+      leave_routes inputs sessions courses peers lefts fronts.1 are.1 stand.2,
+      sum_by-cons (λ (n : ℕ). n) (length (prefixes_of p.routes))
+          (map (λ (p : PeerState). length (prefixes_of p.routes)) peers),
+    )
+
+-- what a summary gives
+pub summary_gives : (run : Run) (place : Place) (control : ControlState) (rounds : ℕ)
+    (lefts : List (Option (List Event))) (text : List ℕ) → IsAt run place control rounds lefts
+    → text ≡ summary_line (route_count control.peers) 0 → SummaryGives run place text
+summary_gives run place control rounds lefts text s is = record {
+  count = route_count control.peers;
+  left = leave_routes run.inputs place.sessions s.courses control.peers lefts
+      (fronts_at run place control rounds lefts s) s.sessions s.stands.stand;
+  same = is;
+}
+
+-- where an edit leads
+pub changed_at : (run : Run) (place : Place) (edit : Edit) (old new : ControlState) (rounds : ℕ)
+    (lefts : List (Option (List Event))) → (s : IsAt run place old rounds lefts) → Edits edit old new
+    → ControlStandsFor run.config (place.edits ++ edit ∷ []) s.courses new → new.exhausted ≡ false
+    → IsAt run (next_place run.inputs (change edit) place) new rounds lefts
+changed_at run place edit old new rounds lefts s edits stands able = record {
+  whole = s.whole;
+  courses = s.courses;
+  stands = stands;
+  sessions = subst (λ (ps : List PeerState). AreSessionsAt run.inputs place.sessions s.courses ps lefts)
+      (sym edits.peers) s.sessions;
+  earlier = s.earlier;
+  marks = edits.published.marks ∙ s.marks;
+  limits = edits.published.limits ∙ s.limits;
+  able = able;
+  ended = s.ended;
+}
+
+-- where the end of a round leads
+pub round_at : (run : Run) (place : Place) (control : ControlState) (rounds next : ℕ)
+    (lefts : List (Option (List Event))) → IsAt run place control rounds lefts → next ≡ rounds + 1
+    → IsAt run (next_place run.inputs round place) control next lefts
+round_at run place control rounds next lefts s is = record {
+  whole = s.whole;
+  courses = s.courses;
+  stands = s.stands;
+  sessions = s.sessions;
+  earlier = s.earlier;
+  marks = s.marks;
+  limits = s.limits;
+  able = s.able;
+  ended = is ∙ ap (λ (n : ℕ). n + 1) s.ended;
+}
+
+-- a control goes on to serve a configuration after an edit
+pub serves_edited : (config : Settings) (edit : Edit) (old new : ControlState) → Serves config old
+    → Edits edit old new → Serves config new
+serves_edited config edit old new serves edits = record {
+  sessions = ap length edits.peers ∙ serves.sessions;
+  few = serves.few;
+  interfaces = λ iface is. subst (λ (rows : List (ℕ × Kind)). IsConfigured rows iface) (sym edits.kinds)
+      (edited_kind_at edit old.kinds iface (serves.interfaces iface is));
+}

@@ -1,0 +1,80 @@
+-- The worlds of a run, out of those of its control.
+use Rattle.std.proofs.Common.{◌≡◌, ℕ, List, [], ◌∷◌, ◌++◌, length, Option, Some, None, refl, sym, ap, subst}
+use Rattle.std.proofs.Common.{◌∙◌, unwrap_or}
+use Rattle.std.specs.Prelude.{◌↔◌}
+use Rattle.std.specs.List.{AllZip}
+use Rattle.urpf_base.specs.Lists.{Has}
+use Rattle.urpf_base.specs.declared.kinds.Kind.{Kind}
+use Rattle.feed_io.specs.Events.{Event}
+use Rattle.rpf_plain.specs.World.{World}
+use Rattle.control_core.specs.Controls.{AreAtMost, items_of, position_of}
+use Rattle.control_core.specs.States.{ControlState}
+use Rattle.control_core.specs.Worlds.{IsWorldAt, Position, last_number}
+use Rattle.control_core.proofs.LastMarks.{last_number-push}
+use Rattle.urpf_cli.specs.Inputs.{Run}
+use Rattle.urpf_cli.specs.Places.{Place, mark_at}
+use Rattle.urpf_cli.specs.RunText.{IsWorldOf}
+use Rattle.urpf_cli.specs.Runs.{IsAt}
+use Rattle.urpf_cli.proofs.SessionsAt.{IsFront, fronts, items_same, rows_whole}
+
+-- the courses so far are fronts of the whole ones
+pub fronts_at : (run : Run) (place : Place) (control : ControlState) (rounds : ℕ) (lefts : List (Option (List Event)))
+    → (s : IsAt run place control rounds lefts) → AllZip IsFront s.courses run.inputs
+fronts_at run place control rounds lefts s =
+    fronts run.config.sessions run.inputs place.sessions s.courses control.peers lefts s.whole s.stands.sessions
+    s.sessions s.stands.stand
+
+-- a mark that is made now
+pub mark_same : (run : Run) (place : Place) (control : ControlState) (rounds : ℕ) (lefts : List (Option (List Event)))
+    (number : ℕ) → IsAt run place control rounds lefts → position_of control number ≡ mark_at place number
+mark_same run place control rounds lefts number s =
+    ap (λ (n : ℕ). record { number = number; edits = n; items = items_of control.peers }) s.stands.counted
+    ∙ ap (λ (ns : List ℕ). record { number = number; edits = length place.edits; items = ns })
+    (items_same run.inputs place.sessions s.courses control.peers lefts s.sessions s.stands.stand)
+
+-- a world over what the sessions took so far is one over the whole sessions
+pub world_whole : (run : Run) (place : Place) (control : ControlState) (rounds : ℕ)
+    (lefts : List (Option (List Event))) (mark : Position) (kinds : List (ℕ × Kind)) (world : World)
+    → (s : IsAt run place control rounds lefts) → AreAtMost mark.items (items_of control.peers)
+    → IsWorldAt run.config place.edits s.courses mark kinds world → IsWorldOf run place mark kinds world
+world_whole run place control rounds lefts mark kinds world s most w = record {
+  edited = w.edited;
+  roles = w.roles;
+  pairs = w.pairs;
+  rows = λ row. subst (λ (T : Type 0). Has world.rows row ↔ T)
+      (rows_whole s.courses run.inputs control.peers mark.items row
+      (fronts_at run place control rounds lefts s) s.stands.stand most) (w.rows row);
+}
+
+last_of : List Position → Option Position
+last_of [] = None
+last_of (mark ∷ []) = Some mark
+last_of (mark ∷ later ∷ marks) = last_of (later ∷ marks)
+
+last_of-push : (marks : List Position) (mark : Position) → last_of (marks ++ mark ∷ []) ≡ Some mark
+unfolding last_of
+last_of-push [] mark = refl
+last_of-push (m ∷ []) mark = refl
+last_of-push (m ∷ n ∷ marks) mark = last_of-push (n ∷ marks) mark
+
+-- a list of marks has one last mark
+pub one_last : (marks : List Position) (a b : List Position) (x y : Position) → marks ≡ a ++ x ∷ []
+    → marks ≡ b ++ y ∷ [] → x ≡ y
+one_last marks a b x y first second =
+    ap (λ (o : Option Position). unwrap_or o x)
+    (sym (last_of-push a x) ∙ ap last_of (sym first ∙ second) ∙ last_of-push b y)
+
+-- the number of the last mark of the control is that of the place
+pub number_at : (run : Run) (place : Place) (control : ControlState) (rounds : ℕ) (lefts : List (Option (List Event)))
+    → IsAt run place control rounds lefts → last_number control.marks ≡ place.mark.number
+number_at run place control rounds lefts s =
+    ap last_number s.marks ∙ last_number-push s.earlier place.mark
+
+-- the last mark has no more items than the sessions took
+pub mark_reached : (run : Run) (place : Place) (control : ControlState) (rounds : ℕ)
+    (lefts : List (Option (List Event))) → IsAt run place control rounds lefts
+    → AreAtMost place.mark.items (items_of control.peers)
+mark_reached run place control rounds lefts s =
+    subst (λ (mark : Position). AreAtMost mark.items (items_of control.peers))
+    (one_last control.marks s.stands.earlier s.earlier s.stands.last place.mark s.stands.marks s.marks)
+    s.stands.reached.items

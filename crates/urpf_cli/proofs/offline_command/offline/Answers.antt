@@ -1,0 +1,139 @@
+use Rattle.std.proofs.Common.{◌≡◌, ◌∙◌, ℕ, List, Err, Result, ap, inl, inr, length, map, subst, sym}
+use Rattle.std.specs.Prelude.{IfErr, string_bytes}
+use Rattle.feed_io.specs.Events.{Event}
+use Rattle.control_core.specs.declared.limits.RunFault.{RunFault}
+use Rattle.control_core.specs.declared.limits.RunFault.TheVariants.{OutOfMemory}
+use Rattle.router_config.specs.Settings.{Settings}
+use Rattle.runbook.specs.declared.lines.BookLine.{BookLine}
+use Rattle.urpf_cli.specs.Inputs.{events_of}
+use Rattle.urpf_cli.specs.Limits.{StaysBelow}
+use Rattle.urpf_cli.specs.Openings.{IsFailure, IsRefused, Opens}
+use Rattle.urpf_cli.specs.RunText.{steps_for}
+use Rattle.urpf_cli.specs.Runs.{NamesSession, RanBook}
+use Rattle.urpf_cli.specs.Statuses.{IsRunStatus, status_of_run}
+use Rattle.urpf_cli.specs.Steps.{lines_in, steps_of}
+use Rattle.urpf_cli.specs.declared.opening.Refusal.{Refusal}
+use Rattle.urpf_cli.proofs.OfflineEnds.{as_many_told, begun, done_below, none_failed, one_run_end, run_known}
+use Rattle.urpf_cli.proofs.OpeningLaws.{one_opening}
+use Rattle.urpf_cli.proofs.Refusals.{failure_told, one_status}
+use Rattle.urpf_cli.proofs.offline_command.offline.Goals as goal
+
+pub returns-in-Err-clause-refused : goal.returns-in-Err-clause-refused
+returns-in-Err-clause-refused g c = λ r config book decided is left_config left_book.
+    let words = map string_bytes c.args.words.now in
+    let same : c.in-Err.refusal ≡ r =
+    one_status c.in-Err.refusal r decided (sym c.status_of_refusal.ensures ∙ is) in
+    subst (λ (n : ℕ). IsRefused words config book n r) (c.len.ensures ∙ c.args.feeds.now.ok.0)
+    (subst (λ (q : Refusal). IsRefused words config book c.len.result q) same
+    (c.in-Err.ensures.refused (subst (λ (q : Refusal). (IsFailure q → ⊥)) (sym same) decided) config book left_config
+    left_book))
+
+pub returns-in-Err-clause-done_only : goal.returns-in-Err-clause-done_only
+returns-in-Err-clause-done_only g c = λ config book events left_config left_book told below read_config read_book feeds
+    out.
+    let words = map string_bytes c.args.words.now in
+    let given : length events ≡ c.len.result =
+    as_many_told g.F.Feed.left c.args.feeds.now.items events told
+    ∙ sym (c.len.ensures ∙ c.args.feeds.now.ok.0) in
+    let opens : Opens words config book c.len.result below.settings below.rows =
+    subst (λ (n : ℕ). Opens words config book n below.settings below.rows) given below.opens in
+    elim (c.in-Err.ensures.only config book below.settings below.rows left_config left_book opens) [
+      | inl same ↦ absurd cc
+      | inr fails ↦ elim (failure_told c.in-Err.refusal fails) [
+        | inl read ↦ absurd (read_config (c.in-Err.ensures.config.rose (ap (λ (r : Refusal). Err r) read)))
+        | inr other ↦ elim other [
+          | inl read ↦ absurd (read_book (c.in-Err.ensures.book.rose (ap (λ (r : Refusal). Err r) read)))
+          | inr memory ↦ inr (c.status_of_refusal.ensures ∙ memory)
+        ]
+      ]
+    ]
+
+pub returns-clause-known : goal.returns-clause-known
+returns-clause-known g c =
+    let many : length c.in-Ok.opening.config.sessions ≡ length c.args.feeds.now.items =
+    sym c.in-Ok.ensures.ready.counted ∙ c.len.ensures ∙ c.args.feeds.now.ok.0 in
+    subst (λ s. IsRunStatus (length c.args.feeds.now.items) s) (sym c.status_of_end.ensures)
+    (run_known (length c.args.feeds.now.items) c.run_book.result
+    (subst (λ (n : ℕ). IfErr c.run_book.result (NamesSession n)) many c.run_book.ensures.names))
+
+pub returns-clause-ran : goal.returns-clause-ran
+returns-clause-ran g c = λ end config book events had is left_config left_book told.
+    let o = c.in-Ok.opening in
+    let lefts = map g.F.Feed.left c.args.feeds.now.items in
+    let given : length events ≡ c.len.result =
+    as_many_told g.F.Feed.left c.args.feeds.now.items events told
+    ∙ sym (c.len.ensures ∙ c.args.feeds.now.ok.0) in
+    let b = begun o.config events lefts (given ∙ c.in-Ok.ensures.ready.counted) told in
+    record {
+      settings = o.config;
+      rows = o.book;
+      opens = subst (λ (n : ℕ). Opens (map string_bytes c.args.words.now) config book n o.config o.book) (sym given)
+          (c.in-Ok.ensures.found.1 config book left_config left_book);
+      run = b.run;
+      reads = b.reads;
+      ran = subst (λ (e : Result (Unit {0}) RunFault). RanBook b.run (lines_in o.book) e
+          (map g.F.Feed.left c.run_book.new.feeds.items) (g.K.Sink.held c.args.out.now)
+          (g.K.Sink.held c.run_book.new.out))
+          (one_run_end c.run_book.result end (sym c.status_of_end.ensures ∙ is))
+          (c.run_book.ensures.ran b.run b.reads.configured b.reads.is b.told);
+    }
+
+pub returns-clause-memory : goal.returns-clause-memory
+returns-clause-memory g c = λ config book events is left_config left_book told.
+    let o = c.in-Ok.opening in
+    let lefts = map g.F.Feed.left c.args.feeds.now.items in
+    let given : length events ≡ c.len.result =
+    as_many_told g.F.Feed.left c.args.feeds.now.items events told
+    ∙ sym (c.len.ensures ∙ c.args.feeds.now.ok.0) in
+    let b = begun o.config events lefts (given ∙ c.in-Ok.ensures.ready.counted) told in
+    let starved : RanBook b.run (lines_in o.book) (Err OutOfMemory) (map g.F.Feed.left c.run_book.new.feeds.items)
+    (g.K.Sink.held c.args.out.now) (g.K.Sink.held c.run_book.new.out) =
+    subst (λ (e : Result (Unit {0}) RunFault). RanBook b.run (lines_in o.book) e
+    (map g.F.Feed.left c.run_book.new.feeds.items) (g.K.Sink.held c.args.out.now)
+    (g.K.Sink.held c.run_book.new.out))
+    (one_run_end c.run_book.result (Err OutOfMemory) (sym c.status_of_end.ensures ∙ is))
+    (c.run_book.ensures.ran b.run b.reads.configured b.reads.is b.told) in
+    inr (record {
+      settings = o.config;
+      rows = o.book;
+      opens = subst (λ (n : ℕ). Opens (map string_bytes c.args.words.now) config book n o.config o.book) (sym given)
+          (c.in-Ok.ensures.found.1 config book left_config left_book);
+      run = b.run;
+      reads = b.reads;
+      took = starved.0;
+    })
+
+pub returns-clause-done_only : goal.returns-clause-done_only
+returns-clause-done_only g c = λ config book events left_config left_book told below read_config read_book feeds out.
+    let words = map string_bytes c.args.words.now in
+    let o = c.in-Ok.opening in
+    let lefts = map g.F.Feed.left c.args.feeds.now.items in
+    let given : length events ≡ c.len.result =
+    as_many_told g.F.Feed.left c.args.feeds.now.items events told
+    ∙ sym (c.len.ensures ∙ c.args.feeds.now.ok.0) in
+    let b = begun o.config events lefts (given ∙ c.in-Ok.ensures.ready.counted) told in
+    let same =
+    one_opening words config book (length events) below.settings o.config below.rows o.book below.opens
+    (subst (λ (n : ℕ). Opens words config book n o.config o.book) (sym given)
+    (c.in-Ok.ensures.found.1 config book left_config left_book)) in
+    let stays : StaysBelow (events_of b.run) (steps_for b.run (lines_in o.book)) =
+    subst (λ (s : Settings). StaysBelow (events_of b.run) (steps_of (length s.sessions) (lines_in o.book)))
+    (sym b.reads.configured)
+    (subst (λ (es : List (List Event)). StaysBelow es (steps_of (length o.config.sessions) (lines_in o.book)))
+    (sym b.reads.told)
+    (subst (λ (s : Settings). StaysBelow events (steps_of (length s.sessions) (lines_in o.book))) same.0
+    (subst (λ (rows : List (ℕ × BookLine)). StaysBelow events
+    (steps_of (length below.settings.sessions) (lines_in rows))) same.1 below.below))) in
+    let many : length o.config.sessions ≡ length c.args.feeds.now.items =
+    sym c.in-Ok.ensures.ready.counted ∙ c.len.ensures ∙ c.args.feeds.now.ok.0 in
+    let done =
+    done_below b.run (lines_in o.book) c.run_book.result (map g.F.Feed.left c.run_book.new.feeds.items)
+    (g.K.Sink.held c.args.out.now) (g.K.Sink.held c.run_book.new.out)
+    (c.run_book.ensures.ran b.run b.reads.configured b.reads.is b.told) stays
+    (none_failed g.F.Feed.faults c.run_book.result (length o.config.sessions) c.args.feeds.now.items
+    c.run_book.new.feeds.items many c.run_book.ensures.names c.run_book.ensures.feeds feeds)
+    (λ failed. out (c.run_book.ensures.sink.rose failed)) in
+    elim done [
+      | inl is ↦ inl (c.status_of_end.ensures ∙ ap status_of_run is)
+      | inr is ↦ inr (c.status_of_end.ensures ∙ ap status_of_run is)
+    ]

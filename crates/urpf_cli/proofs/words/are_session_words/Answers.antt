@@ -1,0 +1,19 @@
+use Rattle.std.proofs.Common.{string_bytes, refl, arith}
+use Rattle.urpf_cli.specs.Words.{IsSessionWord}
+use Rattle.urpf_cli.proofs.Lines.{each_at, each_of_all}
+use Rattle.urpf_cli.proofs.words.are_session_words.Goals as goal
+
+pub returns-then-not-is_session_word : goal.returns-then-not-is_session_word
+returns-then-not-is_session_word c = (
+  λ is. absurd cc,
+  λ all. let here = each_at string_bytes IsSessionWord c.args.words.now c.loop-word.word-index c.word-item.result
+      (omega arith) c.word-item.is all in
+      c.if-not-is_session_word.ensures.1 (rw c.as_str.ensures.value here),
+)
+
+pub returns : goal.returns
+returns c = (
+  λ is. each_of_all string_bytes IsSessionWord c.args.words.now c.loop-word.word-index (omega arith)
+      c.loop-word.invariant,
+  λ all. refl,
+)

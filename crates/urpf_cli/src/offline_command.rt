@@ -1,0 +1,103 @@
+//! `offline CONFIG BOOK none S...`: runs a runbook over the feeds of the sessions of a configuration.
+ghost use Rattle.std.specs.Prelude.{◌≡◌, ◌↔◌, ◌⊎◌, ℕ, List, Result, Some, length, map, string_bytes};
+ghost use Rattle.urpf_base.specs.Faults.{CountsFault, Rose};
+ghost use Rattle.feed_io.specs.Events.{Event};
+ghost use Rattle.control_core.specs.declared.limits.RunFault.{RunFault};
+ghost use Rattle.control_core.specs.Turns.{HadMemory};
+ghost use Rattle.urpf_cli.specs.declared.opening.Refusal.{Refusal};
+ghost use Rattle.urpf_cli.specs.Offline.{IsBelowLimits, RanText, TookRunFront};
+ghost use Rattle.urpf_cli.specs.Openings.{IsDecided, IsRefused};
+ghost use Rattle.urpf_cli.specs.Runs.{CountEach, NoneRose};
+ghost use Rattle.urpf_cli.specs.Statuses.{IsRunStatus, status_of_refusal, status_of_run};
+ghost use Rattle.urpf_cli.specs.Words.{AreOfflineWords};
+
+use crate::opening::{Opening, open_run, status_of_refusal};
+use crate::run::run_book;
+use crate::status::{Object, Status};
+use control_core::RunFault;
+use feed_io::Feed;
+use std::alloc::Global;
+use urpf_base::{Sink, Source};
+
+/// Runs the book over the feeds of the configured sessions, one feed for each session word, and writes
+/// the text of the run. The words are those after the program's name. No pairs are read yet.
+///
+/// The answers come in this order: the words; the read of the configuration or its length, and its
+/// first rule that is broken; the same of the book, and its first line that is refused; the number of
+/// sessions; and then the faults of the feeds and of the sink as the run meets them. Before the run
+/// begins no feed is asked and nothing is written.
+pub fn offline<S: Source, F: Feed, K: Sink>(
+    alloc: Global,
+    words: &[String],
+    config: &mut S,
+    book: &mut S,
+    feeds: &mut Vec<F>,
+    out: &mut K,
+) -> Status
+    requires { (are : AreOfflineWords (map string_bytes words.now))
+        → length feeds.old.items ≡ length are.sessions }
+    // When each answer comes.
+    ensures usage { result ≡ Status.Usage ↔ ¬ (AreOfflineWords (map string_bytes words.now)) }
+    ensures config { CountsFault (result ≡ Status.ReadFault Object.Config)
+        (S.faults config.old) (S.faults config.new) }
+    ensures book { CountsFault (result ≡ Status.ReadFault Object.Book)
+        (S.faults book.old) (S.faults book.new) }
+    ensures feeds { CountEach F.faults (λ s. result ≡ Status.ReadFault (Object.Session s))
+        feeds.old.items feeds.new.items }
+    ensures sink { CountsFault (result ≡ Status.WriteFault) (K.faults out.old) (K.faults out.new) }
+    ensures known { IsRunStatus (length feeds.old.items) result }
+
+    // Before the run.
+    ensures refused { (r : Refusal) (c b : List ℕ) → IsDecided r → result ≡ status_of_refusal r
+        → S.left config.old ≡ Some c → S.left book.old ≡ Some b
+        → IsRefused (map string_bytes words.now) c b (length feeds.old.items) r }
+    ensures refused_only { (r : Refusal) (c b : List ℕ)
+        → S.left config.old ≡ Some c → S.left book.old ≡ Some b
+        → IsRefused (map string_bytes words.now) c b (length feeds.old.items) r
+        → ¬ Rose (S.faults config.old) (S.faults config.new)
+        → ¬ Rose (S.faults book.old) (S.faults book.new)
+        → (result ≡ status_of_refusal r) ⊎ (result ≡ Status.OutOfMemory) }
+    ensures untouched { (r : Refusal) → (status_of_refusal r ≡ Status.OutOfMemory → ⊥)
+        → result ≡ status_of_refusal r → (feeds.new ≡ feeds.old) × (out.new ≡ out.old) }
+
+    // What a run comes to, and what the sink took of it.
+    ensures ran { (end : Result (Unit {0}) RunFault) (c b : List ℕ) (events : List (List Event))
+        → HadMemory end → result ≡ status_of_run end
+        → S.left config.old ≡ Some c → S.left book.old ≡ Some b → map F.left feeds.old.items ≡ map Some events
+        → RanText (map string_bytes words.now) c b events end (map F.left feeds.new.items)
+        (K.held out.old) (K.held out.new) }
+    ensures memory { (c b : List ℕ) (events : List (List Event)) → result ≡ Status.OutOfMemory
+        → S.left config.old ≡ Some c → S.left book.old ≡ Some b → map F.left feeds.old.items ≡ map Some events
+        → ((feeds.new ≡ feeds.old) × (out.new ≡ out.old))
+        ⊎ TookRunFront (map string_bytes words.now) c b events (K.held out.old) (K.held out.new) }
+    // Where nothing fails and no limit is asked past, the run is done.
+    ensures done_only { (c b : List ℕ) (events : List (List Event))
+        → S.left config.old ≡ Some c → S.left book.old ≡ Some b → map F.left feeds.old.items ≡ map Some events
+        → IsBelowLimits (map string_bytes words.now) c b events
+        → ¬ Rose (S.faults config.old) (S.faults config.new)
+        → ¬ Rose (S.faults book.old) (S.faults book.new)
+        → NoneRose F.faults feeds.old.items feeds.new.items
+        → ¬ Rose (K.faults out.old) (K.faults out.new)
+        → (result ≡ Status.Done) ⊎ (result ≡ Status.OutOfMemory) }
+{
+    let opening = match open_run(alloc, words, config, book, feeds.len()) {
+        Ok(opening) => opening,
+        Err(refusal) => return status_of_refusal(refusal),
+    };
+    let Opening { config, book } = opening;
+    status_of_end(run_book(alloc, config, &book, feeds, out))
+}
+
+/// The status of a run.
+fn status_of_end(end: Result<(), RunFault>) -> Status
+    ensures { result ≡ status_of_run end }
+{
+    match end {
+        Ok(()) => Status::Done,
+        Err(RunFault::ReadFault(session)) => Status::ReadFault(Object::Session(session)),
+        Err(RunFault::WriteFault) => Status::WriteFault,
+        Err(RunFault::ItemLimit(session)) => Status::ItemLimit { session },
+        Err(RunFault::OctetLimit(session)) => Status::OctetLimit { session },
+        Err(RunFault::OutOfMemory) => Status::OutOfMemory,
+    }
+}

@@ -1,10 +1,10 @@
 -- Members of sets that are numbers.
-use Rattle.std.proofs.Common.{◌≡◌, ◌≢◌, ◌<◌, ◌≤◌, ◌⊎◌, ◌↔◌, ◌^◌, ◌%◌, ◌*◌, ◌-◌, ℕ, max, inl, inr, sym, ◌∙◌, subst}
+use Rattle.std.proofs.Common.{◌≡◌, ◌≢◌, ◌<◌, ◌≤◌, ◌⊎◌, ◌↔◌, ◌^◌, ◌%◌, ◌*◌, ◌-◌, ℕ, max, min, inl, inr, sym, ◌∙◌, subst}
 use Rattle.std.proofs.Common.{arith, bit_and, bit_or, w64}
 use Rattle.std.specs.Int.{bit_at}
 use Rattle.std.proofs.lemmas.Bool.{cases_lt}
 use Rattle.std.proofs.lemmas.Nat.{and_le_l}
-use Rattle.std.proofs.lemmas.Nat.Bits.{bit_at-lt, bit_at_or, bit_at_above, bit_at_set_same, bit_at_set_other}
+use Rattle.std.proofs.lemmas.Nat.Bits.{bit_at-lt, bit_at_and, bit_at_or, bit_at_above, bit_at_set_same, bit_at_set_other}
 use Rattle.std.proofs.lemmas.Nat.Bits.{bit_at_clear_same, bit_at_clear_other, same_from_bits}
 use Rattle.urpf_base.specs.Masks.{InMask}
 
@@ -28,6 +28,15 @@ pub InMask-or : (a b i : ℕ) → (InMask (bit_or a b) i ↔ (InMask a i ⊎ InM
 InMask-or a b i = (
   (λ h. max_is_one _ _ (bit_at-lt a i) (bit_at-lt b i) (sym (bit_at_or a b i) ∙ h)),
   (λ h. bit_at_or a b i ∙ one_is_max _ _ (bit_at-lt a i) (bit_at-lt b i) h),
+)
+
+pub min_is_one : (m n : ℕ) → m < 2 → n < 2 → (min m n ≡ 1 ↔ ((m ≡ 1) × (n ≡ 1)))
+min_is_one m n p q = ((λ h. (omega arith, omega arith)), (λ h. omega (arith, h.0, h.1)))
+
+pub InMask-and : (a b i : ℕ) → (InMask (bit_and a b) i ↔ (InMask a i × InMask b i))
+InMask-and a b i = (
+  (λ h. (min_is_one _ _ (bit_at-lt a i) (bit_at-lt b i)).0 (sym (bit_at_and a b i) ∙ h)),
+  (λ h. bit_at_and a b i ∙ (min_is_one _ _ (bit_at-lt a i) (bit_at-lt b i)).1 h),
 )
 
 -- what the same bit says of two numbers

@@ -1,6 +1,6 @@
 //! What the sets of the router say of one prefix, and lists of such cells.
 ghost use Rattle.std.specs.Prelude.{◌≡◌, [], ◌∷◌, ◌++◌, OnOk, OnErr};
-ghost use Rattle.urpf_base.specs.Cells.{AllBefore};
+ghost use Rattle.urpf_base.specs.Cells.{AllBefore, AreAscending};
 
 use crate::masks::Mask;
 use crate::outside::OutOfMemory;
@@ -69,7 +69,8 @@ impl Changes {
 
     /// The changes in their order.
     pub fn items(&self) -> &[CellChange]
-        ensures { result.now ≡ self.now }
+        ensures value { result.now ≡ self.now }
+        ensures ascending { AreAscending self.now }
     {
         &self.items
     }

@@ -68,6 +68,15 @@ impl Mask {
         }
     }
 
+    /// The members that both sets have.
+    pub fn intersection(self, other: Mask) -> Mask
+        ensures { (i : ℕ) → (InMask result i ↔ (InMask self i × InMask other i)) }
+    {
+        Mask {
+            bits: self.bits & other.bits,
+        }
+    }
+
     /// Whether the set has no member.
     pub fn is_empty(&self) -> bool
         ensures { IsTrue result ↔ (self.now ≡ 0) }

@@ -33,18 +33,20 @@ known_group text =
     (λ h. (h.1.some, (let few = h.1.few in omega arith, h.1.digits)))
     (known_both _ _ (known_less 0 (length text)) (known_both _ _ (known_less (length text) 5) (known_digits text)))
 
-abbrev Cut : List ℕ → Type 0
-Cut text = LacksByte 58 text
-    ⊎ ((front : List ℕ) × (others : List ℕ) × LacksByte 58 front × (text ≡ front ++ (58 ∷ others)))
+-- the text lacks the mark, or is cut at its first one
+abbrev pub Cut : ℕ → List ℕ → Type 0
+Cut mark text = LacksByte mark text
+    ⊎ ((front : List ℕ) × (others : List ℕ) × LacksByte mark front × (text ≡ front ++ (mark ∷ others)))
 
-cut_more : (c : ℕ) (cs : List ℕ) → Known (c ≡ 58) → Cut cs → Cut (c ∷ cs)
-cut_more c cs (inl is) rest = inr ([], cs, (λ k less. absurd (omega (arith, less))), ap (λ x. x ∷ cs) is)
-cut_more c cs (inr never) (inl lacks) = inl (lacks_cons 58 c cs never lacks)
-cut_more c cs (inr never) (inr r) = inr (c ∷ r.0, r.1, lacks_cons 58 c r.0 never r.2, ap (λ t. c ∷ t) r.3)
+cut_more : (mark c : ℕ) (cs : List ℕ) → Known (c ≡ mark) → Cut mark cs → Cut mark (c ∷ cs)
+cut_more mark c cs (inl is) rest = inr ([], cs, (λ k less. absurd (omega (arith, less))), ap (λ x. x ∷ cs) is)
+cut_more mark c cs (inr never) (inl lacks) = inl (lacks_cons mark c cs never lacks)
+cut_more mark c cs (inr never) (inr r) =
+    inr (c ∷ r.0, r.1, lacks_cons mark c r.0 never r.2, ap (λ t. c ∷ t) r.3)
 
-cut_of : (text : List ℕ) → Cut text
-cut_of [] = inl (λ k less. absurd (omega (arith, less)))
-cut_of (c ∷ cs) = cut_more c cs (known_same c 58) (cut_of cs)
+pub cut_of : (mark : ℕ) (text : List ℕ) → Cut mark text
+cut_of mark [] = inl (λ k less. absurd (omega (arith, less)))
+cut_of mark (c ∷ cs) = cut_more mark c cs (known_same c mark) (cut_of mark cs)
 
 known_end : (text : List ℕ) → Known (IsEndOrGap text)
 known_end [] = inl tt
@@ -130,7 +132,7 @@ known_colon [] = inr (λ h. omega (arith, ap length h.1))
 known_colon (c ∷ cs) =
     known_like (c ≡ 58) _ (λ is. (cs, ap (λ x. x ∷ cs) is)) (λ h. let e = h.1 in cc) (known_same c 58)
 
-opens_by : (text : List ℕ) → Known (IsEndOrGap text) → Cut text
+opens_by : (text : List ℕ) → Known (IsEndOrGap text) → Cut 58 text
     → ((others : List ℕ) → length others < length text → Known (OpensSome others)) → Known (OpensSome text)
 opens_by text (inl ends) cut go = inl ([], text, record { front = []; spelled = refl; parts = refl; stops = ends })
 opens_by text (inr never) (inl lacks) go = alone text never lacks (known_group text)
@@ -139,9 +141,9 @@ opens_by text (inr never) (inr c) go =
     (go c.1 (omega (arith, ap length c.3, length-append c.0 (58 ∷ c.1))))
 
 opens_within : (n : ℕ) (text : List ℕ) → length text ≤ n → Known (OpensSome text)
-opens_within zero text few = opens_by text (known_end text) (cut_of text) (λ others less. absurd (omega arith))
+opens_within zero text few = opens_by text (known_end text) (cut_of 58 text) (λ others less. absurd (omega arith))
 opens_within (suc n) text few =
-    opens_by text (known_end text) (cut_of text) (λ others less. opens_within n others (omega arith))
+    opens_by text (known_end text) (cut_of 58 text) (λ others less. opens_within n others (omega arith))
 
 known_opens : (text : List ℕ) → Known (OpensSome text)
 known_opens text = opens_within (length text) text (omega arith)

@@ -6,8 +6,10 @@ pub mod Found
 pub mod Known
 pub mod Marks
 pub mod Once
+pub mod PrefixTexts
 pub mod Printed
 pub mod Shifts
 pub mod Sides
 pub mod Slashes
+pub mod Spaces
 pub mod Spelling

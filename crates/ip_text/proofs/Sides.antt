@@ -26,10 +26,10 @@ pub no_gap_of : (text : List ℕ) (b : Bool) → IsTrue b ↔ ((r : List ℕ) ×
     → text ≡ 58 ∷ r → ⊥
 no_gap_of text b tells off r e = let on : b ≡ true = tells.1 (r, e) in cc
 
-pub lacks_not : (text front others : List ℕ) → LacksByte 58 text → text ≡ front ++ (58 ∷ others) → ⊥
-lacks_not text front others lacks parts =
-    lacks (length front) (omega (arith, ap length parts, length-append front (58 ∷ others)))
-    (ap (λ t. get_or t (length front) 0) parts ∙ get_or-append_seam front 58 others 0)
+pub lacks_not : {mark : ℕ} (text front others : List ℕ) → LacksByte mark text → text ≡ front ++ (mark ∷ others) → ⊥
+lacks_not {mark = mark} text front others lacks parts =
+    lacks (length front) (omega (arith, ap length parts, length-append front (mark ∷ others)))
+    (ap (λ t. get_or t (length front) 0) parts ∙ get_or-append_seam front mark others 0)
 
 -- the text has no colon
 module _ (text : List ℕ) (no_cut : (front others : List ℕ) → LacksByte 58 front → text ≡ front ++ (58 ∷ others) → ⊥)

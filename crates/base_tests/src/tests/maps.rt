@@ -8,16 +8,16 @@ use std::sync::ledger::{Blank, Ledger};
 use urpf_base::{Addr, Prefix, Steps};
 
 /// 198.51.100.0, of the addresses for documentation (RFC 5737).
-const NET: u32 = 0xC633_6400;
+pub const NET: u32 = 0xC633_6400;
 
 /// 2001:db8::1, of the addresses for documentation (RFC 3849).
-const HOST: u128 = 0x2001_0DB8_0000_0000_0000_0000_0000_0001;
+pub const HOST: u128 = 0x2001_0DB8_0000_0000_0000_0000_0000_0001;
 
-fn short(rt: &impl Abort, number: u32, len: u8) -> Prefix {
+pub fn short(rt: &impl Abort, number: u32, len: u8) -> Prefix {
     Prefix::new(Addr::V4(number), len).expect(rt, "fits")
 }
 
-fn long(rt: &impl Abort, number: u128, len: u8) -> Prefix {
+pub fn long(rt: &impl Abort, number: u128, len: u8) -> Prefix {
     Prefix::new(Addr::V6(number), len).expect(rt, "fits")
 }
 

@@ -3,14 +3,10 @@ use Rattle.std.specs.Prelude.{decimal}
 use Rattle.std.specs.Option.{SomeIff}
 use Rattle.urpf_base.specs.Address.{Block, block_of, width_of}
 use Rattle.urpf_base.specs.declared.address.Addr.{Addr}
-use Rattle.urpf_base.specs.declared.address.Addr.TheVariants.{V4, V6}
 use Rattle.ip_text.specs.Texts.{SpellsAddr}
+use Rattle.ip_text.proofs.PrefixTexts.{width_small}
 use Rattle.ip_text.proofs.Slashes.{addr_lacks_slash}
 use Rattle.ip_text.proofs.prefixes.read_prefix.Goals as goal
-
-width_small : (a : Addr) → width_of a ≤ 128
-width_small (V4 n) = omega arith
-width_small (V6 n) = omega arith
 
 some_made : (made : Option Block) (len : ℕ) (a : Addr) → SomeIff made (len ≤ width_of a) (block_of len a)
     → len ≤ width_of a → made ≡ Some (block_of len a)

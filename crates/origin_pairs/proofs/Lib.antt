@@ -1,0 +1,5 @@
+pub mod Joined
+pub mod Members
+pub mod Orders
+pub mod Seen
+pub mod Sets

@@ -1,0 +1,10 @@
+pub mod FirstLines
+pub mod Parts
+pub mod Ahead
+pub mod Spelled
+pub mod Seen
+pub mod Records
+pub mod Outcomes
+pub mod Reading
+pub mod ReadObjects
+pub mod OneTable

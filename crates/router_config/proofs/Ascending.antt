@@ -6,7 +6,7 @@ use Rattle.std.specs.List.{AllByRecursion}
 use Rattle.std.proofs.lemmas.Bool.{cases_Bool}
 use Rattle.std.proofs.lemmas.List.{map-append}
 use Rattle.router_config.specs.declared.edits.Edit.{Edit}
-use Rattle.router_config.specs.Edits.{edited, edited_row, target}
+use Rattle.router_config.specs.Edits.{edited, edited_row, is_of}
 use Rattle.router_config.specs.Kinds.{Row, AllBelow, AreIncreasing, IsAscending}
 
 abbrev pub numbers : List Row → List ℕ
@@ -14,7 +14,7 @@ numbers rows = map (λ row. row.0) rows
 
 pub edited_row-number : (edit : Edit) (row : Row) → (edited_row edit row).0 ≡ row.0
 edited_row-number edit row =
-    elim (cases_Bool (row.0 == target edit)) [ inl same ↦ rw same refl | inr other ↦ rw other refl ]
+    elim (cases_Bool (is_of edit row.0)) [ inl same ↦ rw same refl | inr other ↦ rw other refl ]
 
 pub numbers-edited : (edit : Edit) (rows : List Row) → numbers (edited edit rows) ≡ numbers rows
 numbers-edited edit [] = refl

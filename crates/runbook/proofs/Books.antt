@@ -18,7 +18,7 @@ use Rattle.runbook.specs.declared.saying.Alone.TheVariants as alone
 use Rattle.runbook.specs.declared.saying.Said.{Said}
 use Rattle.runbook.specs.declared.saying.Said.TheVariants as said
 use Rattle.runbook.specs.Lines.{Line, counted, lines_of, numbered, numbered_from, one_numbered, words_of}
-use Rattle.runbook.specs.Says.{IsJudged, Says, judged, judged_at, rounds_after}
+use Rattle.runbook.specs.Says.{IsJudged, Says, judged, judged_at, pair_edit, rounds_after}
 use Rattle.runbook.specs.Book.{IsBook, IsLine, IsFirstFault, OpensTaken}
 
 abbrev pub Row : Type 0
@@ -135,6 +135,8 @@ after_said config rounds words (said.Alone alone.Summary) one is e =
     after_test true rounds one entry.Summary Syntax words (ap (counted rounds) is) e
 after_said config rounds words (said.At iface a) one (within, last, spells, is) e =
     after_act (iface_in config.interfaces iface) rounds a one words (ap (counted rounds) is) e
+after_said config rounds words (said.Pair what prefix asn) one (x, y, spelled, number, is) e =
+    after_test true rounds one (entry.Change (pair_edit what prefix asn)) Syntax words (ap (counted rounds) is) e
 
 -- the rounds are counted by the words as by the line
 rounds_told : (config : Settings) (rounds : ℕ) (words : List (List ℕ)) (one : BookLine)

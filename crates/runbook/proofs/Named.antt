@@ -1,10 +1,12 @@
 -- The lines of a book name what is configured.
 use Rattle.std.proofs.lemmas.Bool.Decides.{nat_tests}
-use Rattle.std.proofs.Common.{◌≡◌, ℕ, ◌<◌, Bool, true, false, List, [], ◌∷◌, length, Option, Some, None, Result, Ok, Err}
-use Rattle.std.proofs.Common.{refl, sym, ap, subst, ◌∙◌, inl, inr, arith, if◌then◌else◌}
+use Rattle.std.proofs.Common.{◌≡◌, ℕ, ◌<◌, Bool, true, false, List, [], ◌∷◌, length, Option, Some, None, Result, Ok}
+use Rattle.std.proofs.Common.{Err, refl, sym, ap, subst, ◌∙◌, inl, inr, arith, if◌then◌else◌}
 use Rattle.std.specs.Prelude.{◌==◌, IsSome, cond, find, nat_lt, option_map}
 use Rattle.std.specs.List.{AllZip}
+use Rattle.urpf_base.specs.Address.{Block}
 use Rattle.urpf_base.specs.declared.kinds.Kind.{Kind}
+use Rattle.router_config.specs.Edits.{IsForConfigured}
 use Rattle.router_config.specs.Kinds.{iface_in, kind_in}
 use Rattle.router_config.specs.Settings.{Settings}
 use Rattle.router_config.specs.declared.edits.Edit.TheVariants as edit
@@ -16,11 +18,13 @@ use Rattle.runbook.specs.declared.saying.Act.{Act}
 use Rattle.runbook.specs.declared.saying.Act.TheVariants as act
 use Rattle.runbook.specs.declared.saying.Alone.{Alone}
 use Rattle.runbook.specs.declared.saying.Alone.TheVariants as alone
+use Rattle.runbook.specs.declared.saying.PairAct.{PairAct}
+use Rattle.runbook.specs.declared.saying.PairAct.TheVariants as pair
 use Rattle.runbook.specs.declared.saying.Said.{Said}
 use Rattle.runbook.specs.declared.saying.Said.TheVariants as said
 use Rattle.runbook.specs.Book.{AreConfiguredFor, IsBook, IsConfiguredFor, IsLine}
 use Rattle.runbook.specs.Lines.{Line, numbered}
-use Rattle.runbook.specs.Says.{judged, judged_alone, judged_at, judged_pull}
+use Rattle.runbook.specs.Says.{judged, judged_alone, judged_at, judged_pull, pair_edit}
 
 -- an interface that is found has a kind
 has_kind : (rows : List (ℕ × Kind)) (n m : ℕ) → iface_in rows n ≡ Some m → IsSome (kind_in rows m)
@@ -91,12 +95,20 @@ at_named config iface (Some m) (act.Mode mode) one found is =
     let same : line.Change (edit.Mode m mode) ≡ one = cc in
     subst (IsConfiguredFor config) same (has_kind config.interfaces iface m found)
 
+pair_named : (config : Settings) (what : PairAct) (prefix : Block) (asn : ℕ)
+    → IsForConfigured config.interfaces (pair_edit what prefix asn)
+pair_named config pair.Add prefix asn = tt
+pair_named config pair.Del prefix asn = tt
+
 said_named : (config : Settings) (rounds : ℕ) (s : Said) (one : BookLine) → judged config rounds s ≡ Ok one
     → IsConfiguredFor config one
 said_named config rounds (said.Pull session count) one is = pull_named config session count one is
 said_named config rounds (said.Alone word) one is = alone_named config rounds word one is
 said_named config rounds (said.At iface what) one is =
     at_named config iface (iface_in config.interfaces iface) what one refl is
+said_named config rounds (said.Pair what prefix asn) one is =
+    let same : line.Change (pair_edit what prefix asn) ≡ one = cc in
+    subst (IsConfiguredFor config) same (pair_named config what prefix asn)
 
 line_named : (config : Settings) (l : Line) (row : ℕ × BookLine) → IsLine config l row → IsConfiguredFor config row.1
 line_named config l row is = elim is.1 [

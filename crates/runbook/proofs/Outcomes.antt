@@ -3,9 +3,12 @@ use Rattle.std.proofs.Common.{◌≡◌, ℕ, ◌+◌, ◌<◌, ◌≤◌, ◌�
 use Rattle.std.proofs.Common.{Err, refl, ap, sym, subst, arith}
 use Rattle.std.specs.Prelude.{codes, decimal}
 use Rattle.std.specs.List.{AllZip}
+use Rattle.ip_text.specs.Prefixes.{SpellsAsn, SpellsPrefix}
 use Rattle.ip_text.specs.Texts.{SpellsAddr}
 use Rattle.ip_text.proofs.Found.{known_addr}
 use Rattle.ip_text.proofs.Known.{Known, known_both, known_either, known_like, known_text, known_below}
+use Rattle.ip_text.proofs.PrefixTexts.{known_asn, known_prefix}
+use Rattle.urpf_base.specs.Address.{Block}
 use Rattle.urpf_base.specs.declared.address.Addr.{Addr}
 use Rattle.urpf_base.specs.declared.kinds.Mode.{Mode}
 use Rattle.urpf_base.specs.declared.kinds.Mode.TheVariants as mode
@@ -20,13 +23,16 @@ use Rattle.runbook.specs.declared.saying.Act.{Act}
 use Rattle.runbook.specs.declared.saying.Act.TheVariants as act
 use Rattle.runbook.specs.declared.saying.Alone.{Alone}
 use Rattle.runbook.specs.declared.saying.Alone.TheVariants as alone
+use Rattle.runbook.specs.declared.saying.PairAct.{PairAct}
+use Rattle.runbook.specs.declared.saying.PairAct.TheVariants as pair
 use Rattle.runbook.specs.declared.saying.Said.{Said}
 use Rattle.runbook.specs.declared.saying.Said.TheVariants as said
 use Rattle.runbook.specs.Lines.{Line, numbered}
 use Rattle.runbook.specs.Says.{IsJudged, NamesCount, NamesSession, Says, SpellsAct, act_word, alone_word, judged}
+use Rattle.runbook.specs.Says.{pair_word}
 use Rattle.runbook.specs.Book.{IsBook, IsLine, IsFirstFault}
 use Rattle.runbook.proofs.Books.{Row}
-use Rattle.runbook.proofs.Sayings.{first, second, third, tail}
+use Rattle.runbook.proofs.Sayings.{first, fourth, second, second_of_four, third, third_of_four, tail}
 
 -- the text is decimal of a number up to the most
 abbrev Number : ℕ → List ℕ → Type 0
@@ -207,26 +213,79 @@ three_by a b c (said.Pull s n) (x, y, session, count, is) =
 three_by a b c (said.Alone one) h = let e = tail h in cc
 three_by a b c (said.At i one) (within, last, spells, is) =
     inr ((i, within, second is), (one, first is, subst (λ t. SpellsAct t one) (sym (third is)) spells))
+three_by a b c (said.Pair act p n) (x, y, prefix, asn, is) = let e = tail (tail (tail is)) in cc
+
+-- the second word of a line on a pair
+abbrev PairActs : List ℕ → Type 0
+PairActs word = (one : PairAct) × (word ≡ pair_word one)
+
+pair_act_to : (word : List ℕ) → ((word ≡ codes "add") ⊎ (word ≡ codes "del")) → PairActs word
+pair_act_to word (inl is) = (pair.Add, is)
+pair_act_to word (inr is) = (pair.Del, is)
+
+pair_act_by : (word : List ℕ) (one : PairAct) → word ≡ pair_word one → ((word ≡ codes "add") ⊎ (word ≡ codes "del"))
+pair_act_by word pair.Add is = inl is
+pair_act_by word pair.Del is = inr is
+
+known_pair_act : (word : List ℕ) → Known (PairActs word)
+known_pair_act word =
+    known_like _ (PairActs word) (pair_act_to word) (λ h. pair_act_by word h.0 h.1)
+    (known_either _ _ (known_text word (codes "add")) (known_text word (codes "del")))
+
+four : {a b c d w x y z : List ℕ} → a ≡ w → b ≡ x → c ≡ y → d ≡ z → a ∷ b ∷ c ∷ d ∷ [] ≡ w ∷ x ∷ y ∷ z ∷ []
+four p q r s i = p i ∷ q i ∷ r i ∷ s i ∷ []
+
+-- four words say what is done with a pair
+abbrev Four : List ℕ → List ℕ → List ℕ → List ℕ → Type 0
+Four a b c d = (a ≡ codes "pair") × (PairActs b × (((p : Block) × SpellsPrefix c p) × ((n : ℕ) × SpellsAsn d n)))
+
+known_four : (a b c d : List ℕ) → Known (Four a b c d)
+known_four a b c d =
+    known_both _ _ (known_text a (codes "pair"))
+    (known_both _ _ (known_pair_act b) (known_both _ _ (known_prefix c) (known_asn d)))
+
+said_by_four : (a b c d : List ℕ) → Four a b c d → Saying (a ∷ b ∷ c ∷ d ∷ [])
+said_by_four a b c d (is, (one, (p, n))) =
+    (said.Pair one.0 p.0 n.0, (c, d, p.1, n.1, four is one.1 refl refl))
+
+four_by : (a b c d : List ℕ) (s : Said) → Says (a ∷ b ∷ c ∷ d ∷ []) s → Four a b c d
+four_by a b c d (said.Pull s n) (x, y, session, count, is) = let e = tail (tail (tail is)) in cc
+four_by a b c d (said.Alone one) h = let e = tail h in cc
+four_by a b c d (said.At i one) (within, last, spells, is) = let e = tail (tail (tail is)) in cc
+four_by a b c d (said.Pair one p n) (x, y, prefix, asn, is) = (
+  first is,
+  (
+    (one, second_of_four is),
+    (
+      (p, subst (λ t. SpellsPrefix t p) (sym (third_of_four is)) prefix),
+      (n, subst (λ t. SpellsAsn t n) (sym (fourth is)) asn),
+    ),
+  ),
+)
 
 none_of_none : (s : Said) → Says [] s → ⊥
 none_of_none (said.Pull s n) (x, y, session, count, is) = cc
 none_of_none (said.Alone one) h = cc
 none_of_none (said.At i one) (within, last, spells, is) = cc
+none_of_none (said.Pair one p n) (x, y, prefix, asn, is) = cc
 
 one_by : (a : List ℕ) (s : Said) → Says (a ∷ []) s → Alones a
 one_by a (said.Pull s n) (x, y, session, count, is) = let e = tail is in cc
 one_by a (said.Alone one) h = (one, first h)
 one_by a (said.At i one) (within, last, spells, is) = let e = tail is in cc
+one_by a (said.Pair one p n) (x, y, prefix, asn, is) = let e = tail is in cc
 
 none_of_two : (a b : List ℕ) (s : Said) → Says (a ∷ b ∷ []) s → ⊥
 none_of_two a b (said.Pull s n) (x, y, session, count, is) = let e = tail (tail is) in cc
 none_of_two a b (said.Alone one) h = let e = tail h in cc
 none_of_two a b (said.At i one) (within, last, spells, is) = let e = tail (tail is) in cc
+none_of_two a b (said.Pair one p n) (x, y, prefix, asn, is) = let e = tail (tail is) in cc
 
-none_of_four : (a b c d : List ℕ) (more : List (List ℕ)) (s : Said) → Says (a ∷ b ∷ c ∷ d ∷ more) s → ⊥
-none_of_four a b c d more (said.Pull s n) (x, y, session, count, is) = let e = tail (tail (tail is)) in cc
-none_of_four a b c d more (said.Alone one) h = let e = tail h in cc
-none_of_four a b c d more (said.At i one) (within, last, spells, is) = let e = tail (tail (tail is)) in cc
+none_of_five : (a b c d e : List ℕ) (more : List (List ℕ)) (s : Said) → Says (a ∷ b ∷ c ∷ d ∷ e ∷ more) s → ⊥
+none_of_five a b c d e more (said.Pull s n) (x, y, session, count, is) = let t = tail (tail (tail is)) in cc
+none_of_five a b c d e more (said.Alone one) h = let t = tail h in cc
+none_of_five a b c d e more (said.At i one) (within, last, spells, is) = let t = tail (tail (tail is)) in cc
+none_of_five a b c d e more (said.Pair one p n) (x, y, prefix, asn, is) = let t = tail (tail (tail (tail is))) in cc
 
 -- words say something or nothing
 known_saying : (words : List (List ℕ)) → Known (Saying words)
@@ -237,7 +296,10 @@ known_saying (a ∷ []) =
 known_saying (a ∷ b ∷ []) = inr (λ h. none_of_two a b h.0 h.1)
 known_saying (a ∷ b ∷ c ∷ []) =
     known_like (Three a b c) (Saying (a ∷ b ∷ c ∷ [])) (said_by a b c) (λ h. three_by a b c h.0 h.1) (known_three a b c)
-known_saying (a ∷ b ∷ c ∷ d ∷ more) = inr (λ h. none_of_four a b c d more h.0 h.1)
+known_saying (a ∷ b ∷ c ∷ d ∷ []) =
+    known_like (Four a b c d) (Saying (a ∷ b ∷ c ∷ d ∷ [])) (said_by_four a b c d) (λ h. four_by a b c d h.0 h.1)
+    (known_four a b c d)
+known_saying (a ∷ b ∷ c ∷ d ∷ e ∷ more) = inr (λ h. none_of_five a b c d e more h.0 h.1)
 
 -- something becomes of all words
 outcome_by : (config : Settings) (rounds : ℕ) (words : List (List ℕ)) → Known (Saying words)

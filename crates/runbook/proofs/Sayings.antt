@@ -7,6 +7,9 @@ use Rattle.std.proofs.lemmas.Slice.Eq.{bytes_eq-Decides}
 use Rattle.std.proofs.lemmas.Fmt.{decimal_injective}
 use Rattle.ip_text.proofs.Addresses.{one_addr}
 use Rattle.ip_text.proofs.Decimals.{decimal_lacks}
+use Rattle.ip_text.proofs.PrefixTexts.{one_asn, one_prefix}
+use Rattle.ip_text.specs.Prefixes.{SpellsAsn, SpellsPrefix}
+use Rattle.urpf_base.specs.Address.{Block}
 use Rattle.urpf_base.specs.declared.kinds.Mode.{Mode}
 use Rattle.urpf_base.specs.declared.kinds.Mode.TheVariants as mode
 use Rattle.urpf_base.specs.declared.kinds.Role.{Role}
@@ -16,9 +19,11 @@ use Rattle.runbook.specs.declared.saying.Act.{Act}
 use Rattle.runbook.specs.declared.saying.Act.TheVariants as act
 use Rattle.runbook.specs.declared.saying.Alone.{Alone}
 use Rattle.runbook.specs.declared.saying.Alone.TheVariants as alone
+use Rattle.runbook.specs.declared.saying.PairAct.{PairAct}
+use Rattle.runbook.specs.declared.saying.PairAct.TheVariants as pair
 use Rattle.runbook.specs.declared.saying.Said.{Said}
 use Rattle.runbook.specs.declared.saying.Said.TheVariants as said
-use Rattle.runbook.specs.Says.{NamesCount, NamesSession, Says, SpellsAct, act_word, alone_word}
+use Rattle.runbook.specs.Says.{NamesCount, NamesSession, Says, SpellsAct, act_word, alone_word, pair_word}
 
 -- no number is written `all`
 pub all_is_no_number : (n : ℕ) → n ≤ 1000000000 → codes "all" ≡ decimal n → ⊥
@@ -121,6 +126,38 @@ pull_is_not_alone alone.Publish e = differs (codes "pull") (codes "publish") ref
 pull_is_not_alone alone.Round e = differs (codes "pull") (codes "round") refl e
 pull_is_not_alone alone.Summary e = differs (codes "pull") (codes "summary") refl e
 
+pub pair_is_no_act : (a : Act) → codes "pair" ≡ act_word a → ⊥
+pair_is_no_act (act.Check addr) e = differs (codes "pair") (codes "check") refl e
+pair_is_no_act (act.Role role) e = differs (codes "pair") (codes "role") refl e
+pair_is_no_act (act.Mode mode) e = differs (codes "pair") (codes "mode") refl e
+
+pub pair_is_not_alone : (a : Alone) → codes "pair" ≡ alone_word a → ⊥
+pair_is_not_alone alone.Publish e = differs (codes "pair") (codes "publish") refl e
+pair_is_not_alone alone.Round e = differs (codes "pair") (codes "round") refl e
+pair_is_not_alone alone.Summary e = differs (codes "pair") (codes "summary") refl e
+
+pub one_pair_act : (a b : PairAct) → pair_word a ≡ pair_word b → a ≡ b
+one_pair_act pair.Add pair.Add e = refl
+one_pair_act pair.Add pair.Del e = absurd (differs (codes "add") (codes "del") refl e)
+one_pair_act pair.Del pair.Add e = absurd (differs (codes "del") (codes "add") refl e)
+one_pair_act pair.Del pair.Del e = refl
+
+-- words of four are the same one by one
+pub second_of_four : {a b c d w x y z : List ℕ} → a ∷ b ∷ c ∷ d ∷ [] ≡ w ∷ x ∷ y ∷ z ∷ [] → b ≡ x
+second_of_four e = cc
+
+pub third_of_four : {a b c d w x y z : List ℕ} → a ∷ b ∷ c ∷ d ∷ [] ≡ w ∷ x ∷ y ∷ z ∷ [] → c ≡ y
+third_of_four e = cc
+
+pub fourth : {a b c d w x y z : List ℕ} → a ∷ b ∷ c ∷ d ∷ [] ≡ w ∷ x ∷ y ∷ z ∷ [] → d ≡ z
+fourth e = cc
+
+one_of_four : {a w x y z : List ℕ} → a ∷ [] ≡ w ∷ x ∷ y ∷ z ∷ [] → ⊥
+one_of_four e = let t = tail e in cc
+
+three_of_four : {a b c w x y z : List ℕ} → a ∷ b ∷ c ∷ [] ≡ w ∷ x ∷ y ∷ z ∷ [] → ⊥
+three_of_four e = let t = tail (tail (tail e)) in cc
+
 one_of_three : {a x y z : List ℕ} → a ∷ [] ≡ x ∷ y ∷ z ∷ [] → ⊥
 one_of_three e = let t = tail e in cc
 
@@ -145,6 +182,18 @@ one_saying words (said.At i one) (said.At j other) h k =
     let act : one ≡ other =
     one_act h.1 one other (first e) h.2 (subst (λ t. SpellsAct t other) (sym (third e)) k.2) in
     λ x. said.At (iface x) (act x)
+one_saying words (said.Pull a m) (said.Pair act p n) h k = absurd (three_of_four (sym h.4 ∙ k.4))
+one_saying words (said.Alone one) (said.Pair act p n) h k = absurd (one_of_four (sym h ∙ k.4))
+one_saying words (said.At i one) (said.Pair act p n) h k = absurd (three_of_four (sym h.3 ∙ k.4))
+one_saying words (said.Pair act p n) (said.Pull a m) h k = absurd (three_of_four (sym k.4 ∙ h.4))
+one_saying words (said.Pair act p n) (said.Alone one) h k = absurd (one_of_four (sym k ∙ h.4))
+one_saying words (said.Pair act p n) (said.At i one) h k = absurd (three_of_four (sym k.3 ∙ h.4))
+one_saying words (said.Pair one p m) (said.Pair other q n) h k =
+    let e = sym h.4 ∙ k.4 in
+    let act : one ≡ other = one_pair_act one other (second_of_four e) in
+    let prefix : p ≡ q = one_prefix h.0 p q h.2 (subst (λ t. SpellsPrefix t q) (sym (third_of_four e)) k.2) in
+    let asn : m ≡ n = one_asn h.1 m n h.3 (subst (λ t. SpellsAsn t n) (sym (fourth e)) k.3) in
+    λ i. said.Pair (act i) (prefix i) (asn i)
 
 -- words that begin with `pull` say a pull and nothing else
 pub pull_only : (word : List ℕ) (more : List (List ℕ)) (read : Option Said) → word ≡ codes "pull"
@@ -155,12 +204,28 @@ pull_only word more read is only (said.Pull session count) h =
     only session count (subst (λ w. Says (w ∷ more) (said.Pull session count)) is h)
 pull_only word more read is only (said.Alone one) h = absurd (pull_is_not_alone one (sym is ∙ first h))
 pull_only word more read is only (said.At iface act) h = absurd (pull_is_no_act act (sym is ∙ first h.3))
+pull_only word more read is only (said.Pair act p n) h =
+    absurd (differs (codes "pull") (codes "pair") refl (sym is ∙ first h.4))
+
+-- words that begin with `pair` say what is done with a pair and nothing else
+pub pair_only : (word : List ℕ) (more : List (List ℕ)) (read : Option Said) → word ≡ codes "pair"
+    → ((act : PairAct) (p : Block) (n : ℕ) → Says (codes "pair" ∷ more) (said.Pair act p n)
+    → read ≡ Some (said.Pair act p n))
+    → (s : Said) → Says (word ∷ more) s → read ≡ Some s
+pair_only word more read is only (said.Pull session count) h =
+    absurd (differs (codes "pair") (codes "pull") refl (sym is ∙ first h.4))
+pair_only word more read is only (said.Alone one) h = absurd (pair_is_not_alone one (sym is ∙ first h))
+pair_only word more read is only (said.At iface act) h = absurd (pair_is_no_act act (sym is ∙ first h.3))
+pair_only word more read is only (said.Pair act p n) h =
+    only act p n (subst (λ w. Says (w ∷ more) (said.Pair act p n)) is h)
 
 -- words that begin otherwise, and with no word that stands alone, say what is done on an interface
 pub at_only : (word : List ℕ) (more : List (List ℕ)) (read : Option Said) → (word ≡ codes "pull" → ⊥)
+    → (word ≡ codes "pair" → ⊥)
     → ((one : Alone) → word ≡ alone_word one → ⊥)
     → ((iface : ℕ) (act : Act) → Says (word ∷ more) (said.At iface act) → read ≡ Some (said.At iface act))
     → (s : Said) → Says (word ∷ more) s → read ≡ Some s
-at_only word more read no_pull no_alone only (said.Pull session count) h = absurd (no_pull (first h.4))
-at_only word more read no_pull no_alone only (said.Alone one) h = absurd (no_alone one (first h))
-at_only word more read no_pull no_alone only (said.At iface act) h = only iface act h
+at_only word more read no_pull no_pair no_alone only (said.Pull session count) h = absurd (no_pull (first h.4))
+at_only word more read no_pull no_pair no_alone only (said.Alone one) h = absurd (no_alone one (first h))
+at_only word more read no_pull no_pair no_alone only (said.At iface act) h = only iface act h
+at_only word more read no_pull no_pair no_alone only (said.Pair act p n) h = absurd (no_pair (first h.4))

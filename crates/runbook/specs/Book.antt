@@ -2,7 +2,7 @@
 use Rattle.std.specs.Prelude.{◌≡◌, ◌<◌, ℕ, List, ◌∷◌, ◌++◌, length, Some, None, Ok, Err}
 use Rattle.std.specs.List.{AllByRecursion, AllZip}
 use Rattle.router_config.specs.Configured.{IsConfigured}
-use Rattle.router_config.specs.Edits.{target}
+use Rattle.router_config.specs.Edits.{IsForConfigured}
 use Rattle.router_config.specs.Settings.{Settings}
 use Rattle.runbook.specs.declared.lines.BookLine.{BookLine}
 use Rattle.runbook.specs.declared.lines.BookLine.TheVariants as line
@@ -45,7 +45,7 @@ IsConfiguredFor config (line.Pull (Some session) count) = session < length confi
 IsConfiguredFor config line.Publish = Unit {0}
 IsConfiguredFor config line.Round = Unit {0}
 IsConfiguredFor config (line.Check iface addr) = IsConfigured config.interfaces iface
-IsConfiguredFor config (line.Change edit) = IsConfigured config.interfaces (target edit)
+IsConfiguredFor config (line.Change edit) = IsForConfigured config.interfaces edit
 IsConfiguredFor config line.Summary = Unit {0}
 
 -- so does each line of a book

@@ -1,21 +1,26 @@
 -- What the words of a line say, and what becomes of it in a configured router. Our own format.
 use Rattle.std.specs.Prelude.{◌≡◌, ◌⊎◌, ℕ, ◌+◌, ◌≤◌, nat_lt, length, List, [], ◌∷◌, Option, Some, None, Result, Ok, Err}
 use Rattle.std.specs.Prelude.{codes, decimal, if◌then◌else◌}
+use Rattle.ip_text.specs.Prefixes.{SpellsAsn, SpellsPrefix}
 use Rattle.ip_text.specs.Texts.{SpellsAddr}
 use Rattle.router_config.specs.Kinds.{iface_in}
 use Rattle.router_config.specs.Names.{mode_name, role_name}
 use Rattle.router_config.specs.Settings.{Settings}
+use Rattle.router_config.specs.declared.edits.Edit.{Edit}
 use Rattle.router_config.specs.declared.edits.Edit.TheVariants as edit
 use Rattle.runbook.specs.declared.saying.Act.{Act}
 use Rattle.runbook.specs.declared.saying.Act.TheVariants as act
 use Rattle.runbook.specs.declared.saying.Alone.{Alone}
 use Rattle.runbook.specs.declared.saying.Alone.TheVariants as alone
+use Rattle.runbook.specs.declared.saying.PairAct.{PairAct}
+use Rattle.runbook.specs.declared.saying.PairAct.TheVariants as pair
 use Rattle.runbook.specs.declared.saying.Said.{Said}
 use Rattle.runbook.specs.declared.saying.Said.TheVariants as said
 use Rattle.runbook.specs.declared.lines.BookLine.{BookLine}
 use Rattle.runbook.specs.declared.lines.BookLine.TheVariants as line
 use Rattle.runbook.specs.declared.lines.BookKind.{BookKind}
 use Rattle.runbook.specs.declared.lines.BookKind.TheVariants.{Syntax, Session, Iface, Rounds}
+use Rattle.urpf_base.specs.Address.{Block}
 
 -- the word names one session, or with `*` all of them; numbers are decimal without leading zeros
 abbrev pub NamesSession : List ℕ → Option ℕ → Type 0
@@ -45,6 +50,11 @@ SpellsAct word (act.Check addr) = SpellsAddr word addr
 SpellsAct word (act.Role role) = word ≡ role_name role
 SpellsAct word (act.Mode mode) = word ≡ mode_name mode
 
+-- the second word of a line on a pair
+abbrev pub pair_word : PairAct → List ℕ
+pair_word pair.Add = codes "add"
+pair_word pair.Del = codes "del"
+
 -- the words say this
 abbrev pub Says : List (List ℕ) → Said → Type 0
 Says words (said.Pull session count) =
@@ -53,12 +63,20 @@ Says words (said.Pull session count) =
 Says words (said.Alone one) = words ≡ alone_word one ∷ []
 Says words (said.At iface act) =
     (iface ≤ 65535) × (last : List ℕ) × SpellsAct last act × (words ≡ act_word act ∷ decimal iface ∷ last ∷ [])
+Says words (said.Pair act prefix asn) =
+    (third : List ℕ) × (last : List ℕ) × SpellsPrefix third prefix × SpellsAsn last asn
+    × (words ≡ codes "pair" ∷ pair_word act ∷ third ∷ last ∷ [])
 
 -- the line on a configured interface
 abbrev pub line_at : ℕ → Act → BookLine
 line_at iface (act.Check addr) = line.Check iface addr
 line_at iface (act.Role role) = line.Change (edit.Role iface role)
 line_at iface (act.Mode mode) = line.Change (edit.Mode iface mode)
+
+-- the edit of a pair
+abbrev pub pair_edit : PairAct → Block → ℕ → Edit
+pair_edit pair.Add prefix asn = edit.PairAdd prefix asn
+pair_edit pair.Del prefix asn = edit.PairDel prefix asn
 
 -- a pull, where there are so many sessions
 abbrev pub judged_pull : ℕ → Option ℕ → Option ℕ → Result BookLine BookKind
@@ -78,11 +96,12 @@ judged_at None act = Err Iface
 judged_at (Some iface) act = Ok (line_at iface act)
 
 -- what the words say, where so many rounds are ended before: a session and an interface that are not configured are
--- refused, and so is a round past 65,535
+-- refused, and so is a round past 65,535; a pair needs nothing that is configured
 abbrev pub judged : Settings → ℕ → Said → Result BookLine BookKind
 judged config rounds (said.Pull session count) = judged_pull (length config.sessions) session count
 judged config rounds (said.Alone one) = judged_alone rounds one
 judged config rounds (said.At iface act) = judged_at (iface_in config.interfaces iface) act
+judged config rounds (said.Pair act prefix asn) = Ok (line.Change (pair_edit act prefix asn))
 
 -- what words say is judged, and words that say nothing are refused for that
 abbrev pub IsJudged : Settings → ℕ → List (List ℕ) → Result BookLine BookKind → Type 0

@@ -1,7 +1,7 @@
 //! A runbook, and reading one: the octets of a text come in, and its lines go out, each with its
 //! number, or the first line that is refused.
-ghost use Rattle.std.specs.Prelude.{◌≡◌, ◌⊎◌, ℕ, ◌+◌, ◌^◌, ◌<◌, ◌≤◌, List, [], ◌∷◌, ◌++◌, length, slice_get, IfOk, OnOk};
-ghost use Rattle.std.specs.Prelude.{OnErr};
+ghost use Rattle.std.specs.Prelude.{◌≡◌, ◌⊎◌, ℕ, ◌+◌, ◌^◌, ◌<◌, ◌≤◌, List, [], ◌∷◌, ◌++◌, length, slice_get, IfOk};
+ghost use Rattle.std.specs.Prelude.{OnOk, OnErr};
 ghost use Rattle.std.specs.Prelude.{Ok, Err, Some};
 ghost use Rattle.runbook.specs.declared.lines.BookKind.{BookKind};
 ghost use Rattle.runbook.specs.declared.lines.BookLine.{BookLine};

@@ -3,12 +3,12 @@
 ghost use Rattle.std.specs.Prelude.{◌≡◌, length};
 ghost use Rattle.router_config.specs.Kinds.{iface_in};
 ghost use Rattle.runbook.specs.declared.saying.Alone.{Alone};
-ghost use Rattle.runbook.specs.Says.{judged, judged_alone, judged_at, judged_pull, line_at};
+ghost use Rattle.runbook.specs.Says.{judged, judged_alone, judged_at, judged_pull, line_at, pair_edit};
 
 use crate::lines::{BookKind, BookLine};
-use crate::saying::{Act, Alone, Said};
+use crate::saying::{Act, Alone, PairAct, Said};
 use router_config::{Config, Edit};
-use urpf_base::IfaceId;
+use urpf_base::{IfaceId, Prefix};
 
 /// The most rounds of a runbook. Our own choice.
 const ROUNDS_MAX: u32 = 65_535;
@@ -21,6 +21,7 @@ pub(crate) fn judge(config: &Config, rounds: u32, said: Said) -> Result<BookLine
         Said::Pull { session, count } => judge_pull(config, session, count),
         Said::Alone(one) => judge_alone(rounds, one),
         Said::At { iface, act } => judge_at(config, iface, act),
+        Said::Pair { act, prefix, asn } => Ok(BookLine::Change(pair_edit(act, &prefix, asn))),
     }
 }
 
@@ -75,5 +76,15 @@ fn line_at(iface: IfaceId, act: Act) -> BookLine
         Act::Check(addr) => BookLine::Check { iface, addr },
         Act::Role(role) => BookLine::Change(Edit::Role(iface, role)),
         Act::Mode(mode) => BookLine::Change(Edit::Mode(iface, mode)),
+    }
+}
+
+/// The edit of a pair.
+fn pair_edit(act: PairAct, prefix: &Prefix, asn: u32) -> Edit
+    ensures { result ≡ pair_edit act prefix.now asn }
+{
+    match act {
+        PairAct::Add => Edit::PairAdd(*prefix, asn),
+        PairAct::Del => Edit::PairDel(*prefix, asn),
     }
 }

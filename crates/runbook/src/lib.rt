@@ -7,6 +7,7 @@
 //! ```text
 //! pull S N         publish          check I ADDR     role I customer, peer or provider
 //! round            summary          mode I off, feasible, loose, loose-nodefault, efp-a or efp-b
+//! pair add PREFIX ASN               pair del PREFIX ASN
 //! ```
 //!
 //! Lines end with LF; the last may lack it, and a CR before LF is dropped. `#` and what follows on

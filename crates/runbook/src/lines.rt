@@ -21,7 +21,7 @@ pub enum BookLine {
         iface: IfaceId,
         addr: Addr,
     },
-    /// Changes the role or the mode of an interface.
+    /// Changes the role or the mode of an interface, or adds or removes a pair.
     Change(Edit),
     /// Prints the summary of what is there.
     Summary,

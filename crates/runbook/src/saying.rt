@@ -5,22 +5,26 @@
 //! pull S N         pull S all      pull * N        pull * all
 //! publish          round           summary
 //! check I ADDR     role I ROLE     mode I MODE
+//! pair add PREFIX ASN              pair del PREFIX ASN
 //! ```
 ghost use Rattle.std.specs.Prelude.{◌≡◌, ℕ, ◌∷◌, List, Option, Some, codes};
 ghost use Rattle.std.specs.Option.{IfSome};
+ghost use Rattle.urpf_base.specs.Address.{Block};
 ghost use Rattle.urpf_base.specs.declared.address.Addr.{Addr};
 ghost use Rattle.urpf_base.specs.declared.kinds.Mode.{Mode};
 ghost use Rattle.urpf_base.specs.declared.kinds.Role.{Role};
 ghost use Rattle.runbook.specs.declared.saying.Act.{Act};
 ghost use Rattle.runbook.specs.declared.saying.Alone.{Alone};
+ghost use Rattle.runbook.specs.declared.saying.PairAct.{PairAct};
 ghost use Rattle.runbook.specs.declared.saying.Said.{Said};
 ghost use Rattle.runbook.specs.Lines.{words_in};
 ghost use Rattle.runbook.specs.Says.{NamesCount, NamesSession, Says, SpellsAct, act_word, alone_word};
+ghost use Rattle.runbook.specs.Says.{pair_word};
 
-use crate::words::{has_words, two_words};
-use ip_text::{read_addr, read_number};
+use crate::words::{has_words, three_words, two_words};
+use ip_text::{read_addr, read_asn, read_number, read_prefix};
 use router_config::{read_mode, read_role};
-use urpf_base::{Addr, Mode, Role};
+use urpf_base::{Addr, Mode, Prefix, Role};
 
 /// The greatest number of a session or an interface.
 const NUMBER_MAX: u32 = 65_535;
@@ -43,6 +47,12 @@ pub(crate) enum Said {
         iface: u32,
         act: Act,
     },
+    /// This is done with the pair of this prefix and this AS.
+    Pair {
+        act: PairAct,
+        prefix: Prefix,
+        asn: u32,
+    },
 }
 
 /// What a line of one word says.
@@ -61,6 +71,13 @@ pub(crate) enum Act {
     Mode(Mode),
 }
 
+/// What is done with a pair.
+#[derive(Clone, Copy)]
+pub(crate) enum PairAct {
+    Add,
+    Del,
+}
+
 /// What the words say, of which the rest of the line has those after the first. None where they say
 /// nothing.
 pub(crate) fn read_words(first: &[u8], rest: &[u8]) -> Option<Said>
@@ -69,6 +86,9 @@ pub(crate) fn read_words(first: &[u8], rest: &[u8]) -> Option<Said>
 {
     if first == b"pull".as_slice() {
         return read_pull(rest);
+    }
+    if first == b"pair".as_slice() {
+        return read_pair(rest);
     }
     match read_alone(first) {
         Some(one) => read_end(one, rest),
@@ -120,6 +140,41 @@ fn read_count(word: &[u8]) -> Option<Option<u64>>
         Some(number) => Some(Some(number as u64)),
         None => None,
     }
+}
+
+fn read_pair(rest: &[u8]) -> Option<Said>
+    ensures found { IfSome result (Says (codes "pair" ∷ words_in rest.now)) }
+    ensures only { (act : PairAct) (prefix : Block) (asn : ℕ)
+        → Says (codes "pair" ∷ words_in rest.now) (Said.Pair act prefix asn)
+        → result ≡ Some (Said.Pair act prefix asn) }
+{
+    let Some((act, prefix, asn)) = three_words(rest) else {
+        return None;
+    };
+    let Some(act) = read_pair_act(act) else {
+        return None;
+    };
+    let Some(prefix) = read_prefix(prefix) else {
+        return None;
+    };
+    let Some(asn) = read_asn(asn) else {
+        return None;
+    };
+    Some(Said::Pair { act, prefix, asn })
+}
+
+/// What is done with a pair, by the second word.
+fn read_pair_act(word: &[u8]) -> Option<PairAct>
+    ensures found { IfSome result (λ act. word.now ≡ pair_word act) }
+    ensures only { (act : PairAct) → word.now ≡ pair_word act → result ≡ Some act }
+{
+    if word == b"add".as_slice() {
+        return Some(PairAct::Add);
+    }
+    if word == b"del".as_slice() {
+        return Some(PairAct::Del);
+    }
+    None
 }
 
 /// What the word says alone. None where it says nothing.

@@ -64,3 +64,19 @@ pub(crate) fn two_words(text: &[u8]) -> Option<(&[u8], &[u8])>
     }
     Some((first, second))
 }
+
+/// The three words of a text that has just three. None for any other number of words.
+pub(crate) fn three_words(text: &[u8]) -> Option<(&[u8], &[u8], &[u8])>
+    ensures found { IfSome result
+        (λ r. words_in text.now ≡ r.0.now ∷ r.1.now ∷ r.2.now ∷ []) }
+    ensures only { (first second third : List ℕ) → words_in text.now ≡ first ∷ second ∷ third ∷ []
+        → IsSomeAnd result (λ r. (r.0.now ≡ first) × (r.1.now ≡ second) × (r.2.now ≡ third)) }
+{
+    let Some((first, rest)) = next_word(text) else {
+        return None;
+    };
+    let Some((second, third)) = two_words(rest) else {
+        return None;
+    };
+    Some((first, second, third))
+}

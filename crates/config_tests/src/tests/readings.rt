@@ -3,7 +3,7 @@
 use router_config::{Config, Edit, apply_edit, read_config};
 use std::alloc::Global;
 use std::process::Abort;
-use urpf_base::{IfaceId, Kind, Mode, Role, SessionConfig};
+use urpf_base::{Addr, IfaceId, Kind, Mode, Prefix, Role, SessionConfig};
 
 /// One interface and one session on it, as a table each.
 const ONE_SESSION: &[u8] = b"\
@@ -155,4 +155,27 @@ fn an_edit_changes_one_interface(rt: HostRuntime) {
     assert!(rt; !before.same(&after), "an edit changes them");
     let copy = before.copied().expect(&rt, "memory");
     assert!(rt; before.same(&copy), "a copy is the same");
+}
+
+#[test]
+fn an_edit_of_a_pair_leaves_the_interfaces(rt: HostRuntime) {
+    let mut config = read(&rt, rt.alloc(), THREE_SESSIONS);
+    // 192.0.2.0/24, and the numbers of interfaces as AS numbers.
+    let prefix = Prefix::new(Addr::V4(0xC000_0200), 24).expect(&rt, "a length of IPv4");
+    apply_edit(&mut config, &Edit::PairAdd(prefix, 1));
+    apply_edit(&mut config, &Edit::PairDel(prefix, 2));
+    apply_edit(&mut config, &Edit::PairDel(prefix, 0));
+    expect_kind(&rt, &config, 0, Some((Role::Customer, Mode::EfpA)));
+    expect_kind(&rt, &config, 1, Some((Role::Customer, Mode::EfpA)));
+    expect_kind(&rt, &config, 2, Some((Role::Provider, Mode::Loose)));
+    expect_kind(&rt, &config, 3, None);
+    expect_sessions(
+        &rt,
+        &config,
+        &[
+            (0, 64501, 90, 2_000_000),
+            (1, 64502, 90, 2_000_000),
+            (2, 64499, 90, 2_000_000),
+        ],
+    );
 }

@@ -5,7 +5,7 @@ use router_config::{Config, Edit, read_config};
 use runbook::{Book, BookFault, BookKind, BookLine, ReadBook, read_book};
 use std::alloc::Global;
 use std::process::Abort;
-use urpf_base::{Addr, IfaceId, Mode, Role};
+use urpf_base::{Addr, IfaceId, Mode, Prefix, Role};
 
 /// Interfaces 0 and 5, and sessions 0, 1 and 2 on them.
 const CONFIG: &[u8] = b"\
@@ -29,11 +29,18 @@ enum Wanted {
     Check(u16, Addr),
     Role(u16, Role),
     Mode(u16, Mode),
+    /// Of an address, a length and an AS number.
+    PairAdd(Addr, u8, u32),
+    PairDel(Addr, u8, u32),
     Summary,
 }
 
 fn iface(rt: &impl Abort, number: u16) -> IfaceId {
     IfaceId::new(number).expect(rt, "below 64")
+}
+
+fn prefix(rt: &impl Abort, addr: Addr, len: u8) -> Prefix {
+    Prefix::new(addr, len).expect(rt, "a length of the family")
 }
 
 /// The line of a book that is meant.
@@ -48,6 +55,12 @@ fn line_of(rt: &impl Abort, wanted: Wanted) -> BookLine {
         },
         Wanted::Role(number, role) => BookLine::Change(Edit::Role(iface(rt, number), role)),
         Wanted::Mode(number, mode) => BookLine::Change(Edit::Mode(iface(rt, number), mode)),
+        Wanted::PairAdd(addr, len, asn) => {
+            BookLine::Change(Edit::PairAdd(prefix(rt, addr, len), asn))
+        }
+        Wanted::PairDel(addr, len, asn) => {
+            BookLine::Change(Edit::PairDel(prefix(rt, addr, len), asn))
+        }
         Wanted::Summary => BookLine::Summary,
     }
 }
@@ -62,7 +75,7 @@ fn read(rt: &impl Abort, alloc: Global, config: &Config, text: &[u8]) -> Book
 }
 
 /// Each form of a line.
-const FORMS: [(&str, Wanted); 19] = [
+const FORMS: [(&str, Wanted); 27] = [
     ("pull 0 5", Wanted::Pull(Some(0), Some(5))),
     ("pull 2 all", Wanted::Pull(Some(2), None)),
     ("pull * 1000000000", Wanted::Pull(None, Some(1_000_000_000))),
@@ -88,6 +101,41 @@ const FORMS: [(&str, Wanted); 19] = [
     ),
     ("mode 0 efp-a", Wanted::Mode(0, Mode::EfpA)),
     ("mode 0 efp-b", Wanted::Mode(0, Mode::EfpB)),
+    (
+        "pair add 192.0.2.0/24 64501",
+        Wanted::PairAdd(Addr::V4(0xC000_0200), 24, 64_501),
+    ),
+    (
+        "pair del 192.0.2.0/24 64501",
+        Wanted::PairDel(Addr::V4(0xC000_0200), 24, 64_501),
+    ),
+    // Bits past the length count for nothing, and the letters stand in either case.
+    (
+        "pair add 192.0.2.77/24 As64501",
+        Wanted::PairAdd(Addr::V4(0xC000_0200), 24, 64_501),
+    ),
+    (
+        "pair del 2001:DB8::1/32 as4294967295",
+        Wanted::PairDel(
+            Addr::V6(0x2001_0DB8_0000_0000_0000_0000_0000_0000),
+            32,
+            4_294_967_295,
+        ),
+    ),
+    // The shortest and the longest of each family, and AS 0.
+    ("pair add 0.0.0.0/0 0", Wanted::PairAdd(Addr::V4(0), 0, 0)),
+    (
+        "pair add 255.255.255.255/32 AS1",
+        Wanted::PairAdd(Addr::V4(0xFFFF_FFFF), 32, 1),
+    ),
+    (
+        "\tpair  del\t::/0 7 # x",
+        Wanted::PairDel(Addr::V6(0), 0, 7),
+    ),
+    (
+        "pair del ::2/128 64501",
+        Wanted::PairDel(Addr::V6(2), 128, 64_501),
+    ),
 ];
 
 /// Asserts that each text is a book of that one line.
@@ -190,7 +238,7 @@ const NO_IFACE: [(&str, u32); 6] = [
 ];
 
 /// Words that are those of no line, also where the session or the interface is not configured.
-const NO_LINE: [(&str, u32); 30] = [
+const NO_LINE: [(&str, u32); 46] = [
     ("publish\n#\npublis\n", 3),
     ("pull 3 x", 1),
     ("check 1 192.0.2", 1),
@@ -219,9 +267,26 @@ const NO_LINE: [(&str, u32); 30] = [
     ("round 1", 1),
     ("summary 0", 1),
     ("summary all", 1),
-    // No command takes pairs yet.
-    ("pair add 192.0.2.0/24 64501", 1),
-    ("pair del 192.0.2.0/24 64501", 1),
+    // A pair without a length, with one past its family, or with a dotted or too great AS number.
+    ("pair add 192.0.2.0 64501", 1),
+    ("pair add 192.0.2.0/33 64501", 1),
+    ("pair add 2001:db8::/129 64501", 1),
+    ("pair add 192.0.2.0/024 64501", 1),
+    ("pair add 192.0.2.0/24 1.5", 1),
+    ("pair add 192.0.2.0/24 4294967296", 1),
+    ("pair del 192.0.2.0/24 AS", 1),
+    ("pair del 192.0.2.0/24 064501", 1),
+    // A word of it that is missing, one too many, in another place, or of another line.
+    ("pair add 192.0.2.0/24", 1),
+    ("pair 192.0.2.0/24 64501", 1),
+    ("add 192.0.2.0/24 64501", 1),
+    ("pair add 192.0.2.0/24 AS 64501", 1),
+    ("pair del 192.0.2.0/24 64501 24", 1),
+    ("pair add 64501 192.0.2.0/24", 1),
+    ("publish\npair Add 192.0.2.0/24 64501", 2),
+    ("pair delete 192.0.2.0/24 64501", 1),
+    ("pair", 1),
+    ("role pair 192.0.2.0/24 64501", 1),
     // A CR that no LF follows, and the first of two.
     ("publish\r", 1),
     ("\r", 1),

@@ -1,20 +1,21 @@
 -- The sets depend on which rows there are, and not on their order or on how often they are there.
-use Rattle.std.proofs.Common.{◌≡◌, ◌↔◌, inl, inr, ℕ, Bool, true, ◌==◌, ◌&&◌, not, List, [], ◌∷◌, Some, sym}
+use Rattle.std.proofs.Common.{◌≡◌, ◌↔◌, inl, inr, ℕ, Bool, true, ◌==◌, ◌&&◌, not, List, Some, sym}
 use Rattle.std.proofs.Common.{subst, ◌<◌}
 use Rattle.std.specs.List.{filter}
-use Rattle.std.proofs.lemmas.Bool.{and_from, and_parts, cases_Bool}
+use Rattle.std.proofs.lemmas.Bool.{and_from, and_parts}
 use Rattle.urpf_base.specs.Address.{Block}
 use Rattle.urpf_base.specs.Lists.{Has}
 use Rattle.urpf_base.specs.declared.cells.Cell.{Cell}
 use Rattle.rpf_plain.specs.declared.rows.Row.{Row}
 use Rattle.rpf_plain.specs.Cells.{IsCell}
 use Rattle.rpf_plain.specs.Rows.{AreSameRows}
-use Rattle.rpf_plain.specs.Sets.{feasible, has_as, has_origin, has_prefix, is_origin, list_a, list_a_with_pairs}
+use Rattle.rpf_plain.specs.Sets.{feasible, has_origin, has_prefix, is_origin, list_a, list_a_with_pairs}
 use Rattle.rpf_plain.specs.Sets.{origins_of, paired}
 use Rattle.rpf_plain.specs.Sets.{prefixes_of, received, rows_on, set_a, set_p, set_q, set_x, set_z, set_z_with_pairs}
-use Rattle.rpf_plain.specs.World.{Pair, Roles, World, is_customer}
+use Rattle.origin_pairs.specs.Pairs.{AreSamePairs, Pair}
+use Rattle.rpf_plain.specs.World.{Roles, World, is_customer}
 use Rattle.rpf_plain.proofs.Counted.{counted}
-use Rattle.rpf_plain.proofs.Members.{any_by, has_append, has_as_by, has_origin_by, has_prefix_by, in_union, named}
+use Rattle.rpf_plain.proofs.Members.{any_by, has_append, has_origin_by, has_prefix_by, in_paired, in_union, named}
 use Rattle.rpf_plain.proofs.Members.{picked, some_row}
 use Rattle.rpf_plain.proofs.Members.{the_row}
 use Rattle.rpf_plain.proofs.Repeats.{repeats-some}
@@ -26,22 +27,9 @@ world roles pairs rows = record { rows = rows; roles = roles; pairs = pairs }
 abbrev pub AreIn : List Row → List Row → Type 0
 AreIn a b = (r : Row) → Has a r → Has b r
 
--- the pairs that pass a test, where another test passes all that it does
-in_paired : (pairs : List Pair) (ms ns : List ℕ) → ((n : ℕ) → Has ms n → Has ns n) → (p : Block)
-    → Has (paired pairs ms) p → Has (paired pairs ns) p
-in_paired [] ms ns within p h = h
-in_paired (pair ∷ pairs) ms ns within p h =
-    let later = in_paired pairs ms ns within p in
-    elim (cases_Bool (has_as ms pair.1)) [
-      | inl e ↦
-          let there : has_as ns pair.1 ≡ true = (has_as_by ns pair.1).1 (within pair.1 ((has_as_by ms pair.1).0 e)) in
-          rw there (elim (rw e at h) [ inl same ↦ inl same | inr more ↦ inr (later more) ])
-      | inr e ↦
-          elim (cases_Bool (has_as ns pair.1)) [
-            | inl there ↦ rw there (inr (later (rw e at h)))
-            | inr none ↦ rw none (later (rw e at h))
-          ]
-    ]
+-- the pairs of the one list stand in the other
+abbrev pub ArePairsIn : List Pair → List Pair → Type 0
+ArePairsIn pairs like = (pair : Pair) → Has pairs pair → Has like pair
 
 module _ (a b : List Row) (within : AreIn a b) where
   by_prefix : (t u : Row → Bool) → ((r : Row) → t r ≡ true → u r ≡ true) → (p : Block)
@@ -55,12 +43,18 @@ module _ (a b : List Row) (within : AreIn a b) where
       let (r, has, is) = the_row (λ r. (r.origin ≡ Some n) × (t r ≡ true)) a ((named t a n).0 h) in
       (named t b n).1 (some_row (λ r. (r.origin ≡ Some n) × (t r ≡ true)) b r (within r has) is)
 
-  module _ (roles : Roles) (pairs : List Pair) where
+  module _ (roles : Roles) (pairs like : List Pair) (pairs_within : ArePairsIn pairs like) where
     abbrev v : World
     v = world roles pairs a
 
     abbrev w : World
-    w = world roles pairs b
+    w = world roles like b
+
+    more_paired : (ms ns : List ℕ) → ((n : ℕ) → Has ms n → Has ns n) → (p : Block) → Has (paired pairs ms) p
+        → Has (paired like ns) p
+    more_paired ms ns more p h =
+        let (n, has, there) = (in_paired pairs ms p).0 h in
+        (in_paired like ns p).1 (n, pairs_within (p, n) has, more n there)
 
     pub in_feasible : (i : ℕ) (p : Block) → Has (feasible v i) p → Has (feasible w i) p
     in_feasible i p = by_prefix (λ r. r.iface == i) (λ r. r.iface == i) (λ r h. h) p
@@ -89,10 +83,10 @@ module _ (a b : List Row) (within : AreIn a b) where
     in_list i p h =
         let ms = origins_of (rows_on v i) in
         let ns = origins_of (rows_on w i) in
-        (has_append (list_a w i) (paired pairs ns) p).1
+        (has_append (list_a w i) (paired like ns) p).1
         (elim ((has_append (list_a v i) (paired pairs ms) p).0 h) [
           | inl left ↦ inl (in_list_a i p left)
-          | inr right ↦ inr (in_paired pairs ms ns (λ n. by_origin (λ r. r.iface == i) n) p right)
+          | inr right ↦ inr (more_paired ms ns (by_origin (λ r. r.iface == i)) p right)
         ])
 
     in_set_q : (p : Block) → Has (set_q v) p → Has (set_q w) p
@@ -115,39 +109,45 @@ module _ (a b : List Row) (within : AreIn a b) where
 
     pub in_z : (p : Block) → Has (set_z_with_pairs v) p → Has (set_z_with_pairs w) p
     in_z p h =
-        (has_append (set_z w) (paired pairs (set_a w)) p).1
+        (has_append (set_z w) (paired like (set_a w)) p).1
         (elim ((has_append (set_z v) (paired pairs (set_a v)) p).0 h) [
           | inl left ↦ inl (in_set_z p left)
-          | inr right ↦ inr (in_paired pairs (set_a v) (set_a w) in_set_a p right)
+          | inr right ↦ inr (more_paired (set_a v) (set_a w) in_set_a p right)
         ])
 
 -- a cell of the one world is one of the other
-same_cell : (a b : List Row) (roles : Roles) (pairs : List Pair) → AreIn a b → AreIn b a → (p : Block) (c : Cell)
-    → IsCell (world roles pairs a) p c → IsCell (world roles pairs b) p c
-same_cell a b roles pairs to from p c is = record {
-  f = λ i. (
-    λ h. in_feasible a b to roles pairs i p ((is.f i).0 h),
-    λ h. (is.f i).1 (in_feasible b a from roles pairs i p h),
-  );
-  a = λ i. (
-    λ h. let told = (is.a i).0 h in (told.0, in_list a b to roles pairs i p told.1),
-    λ h. (is.a i).1 (h.0, in_list b a from roles pairs i p h.1),
-  );
-  z = (λ h. in_z a b to roles pairs p (is.z.0 h), λ h. is.z.1 (in_z b a from roles pairs p h));
-}
+same_cell : (a b : List Row) (roles : Roles) (pairs like : List Pair) → AreIn a b → AreIn b a → AreSamePairs pairs like
+    → (p : Block) (c : Cell) → IsCell (world roles pairs a) p c → IsCell (world roles like b) p c
+same_cell a b roles pairs like to from same p c is =
+    let there : ArePairsIn pairs like = λ q. (same q).0 in
+    let back : ArePairsIn like pairs = λ q. (same q).1 in
+    record {
+      f = λ i. (
+        λ h. in_feasible a b to roles pairs like there i p ((is.f i).0 h),
+        λ h. (is.f i).1 (in_feasible b a from roles like pairs back i p h),
+      );
+      a = λ i. (
+        λ h. let told = (is.a i).0 h in (told.0, in_list a b to roles pairs like there i p told.1),
+        λ h. (is.a i).1 (h.0, in_list b a from roles like pairs back i p h.1),
+      );
+      z = (
+        λ h. in_z a b to roles pairs like there p (is.z.0 h),
+        λ h. is.z.1 (in_z b a from roles like pairs back p h),
+      );
+    }
 
 -- the same at worlds of one kind
 pub same_members : (v w : World) → ((row : Row) → Has v.rows row ↔ Has w.rows row) → v.roles ≡ w.roles
-    → v.pairs ≡ w.pairs → (p : Block) (c : Cell) → IsCell v p c → IsCell w p c
+    → AreSamePairs v.pairs w.pairs → (p : Block) (c : Cell) → IsCell v p c → IsCell w p c
 same_members v w same roles pairs p c is =
-    same_cell v.rows w.rows w.roles w.pairs (λ r. (same r).0) (λ r. (same r).1) p c
-    (subst (λ (x : World). IsCell x p c) (λ i. record { rows = v.rows; roles = roles i; pairs = pairs i }) is)
+    same_cell v.rows w.rows w.roles v.pairs w.pairs (λ r. (same r).0) (λ r. (same r).1) pairs p c
+    (subst (λ (x : World). IsCell x p c) (λ i. record { rows = v.rows; roles = roles i; pairs = v.pairs }) is)
 
 same_in : (a b : List Row) → AreSameRows a b → AreIn a b
 same_in a b same r h = counted b r (subst (λ n. 0 < n) (same r) (repeats-some a r h))
 
 -- and so at worlds that have each row equally often
-pub same_worlds : (v w : World) → AreSameRows v.rows w.rows → v.roles ≡ w.roles → v.pairs ≡ w.pairs → (p : Block)
-    (c : Cell) → IsCell v p c → IsCell w p c
+pub same_worlds : (v w : World) → AreSameRows v.rows w.rows → v.roles ≡ w.roles → AreSamePairs v.pairs w.pairs
+    → (p : Block) (c : Cell) → IsCell v p c → IsCell w p c
 same_worlds v w same =
     same_members v w (λ r. (same_in v.rows w.rows same r, same_in w.rows v.rows (λ q. sym (same q)) r))

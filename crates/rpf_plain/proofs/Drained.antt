@@ -9,7 +9,8 @@ use Rattle.urpf_base.proofs.Members.{masks_same}
 use Rattle.prefix_map.specs.Mapped.{Mapped}
 use Rattle.rpf_plain.specs.Cells.{AreChanges, AreDifferences, IsCell, IsTable, cell_at, cell_or_empty, empty_cell}
 use Rattle.rpf_plain.specs.Sets.{paired}
-use Rattle.rpf_plain.specs.World.{Pair, Roles, World}
+use Rattle.origin_pairs.specs.Pairs.{Pair}
+use Rattle.rpf_plain.specs.World.{Roles, World}
 use Rattle.prefix_map.proofs.Held.{same_held as same_held_map}
 use Rattle.rpf_plain.proofs.Tables.{nothing, nothing_filled}
 use Rattle.rpf_plain.proofs.Turns.{no_member}
@@ -71,5 +72,5 @@ no_rows roles pairs = record {
         );
         z = (λ h. absurd cc, λ h. absurd (subst (λ ps. Has ps p) (none_paired pairs) h));
       });
-  filled = λ p there. nothing_filled empty refl p empty_cell there refl;
+  filled = nothing_filled empty refl;
 }

@@ -1,17 +1,18 @@
 -- Interfaces that customers are behind.
-use Rattle.std.proofs.Common.{Option, None}
+use Rattle.std.proofs.Common.{Option, None, if◌then◌else◌}
 use Rattle.std.proofs.Common.{◌≡◌, ◌↔◌, ◌≤◌, ◌<◌, ◌+◌, ◌==◌, inl, inr, ℕ, zero, suc, Bool, true, false, IsTrue, List}
 use Rattle.std.proofs.Common.{[], ◌∷◌}
 use Rattle.std.proofs.Common.{drop, length, map, refl, sym, ap, subst, ◌∙◌, Some, arith, add-one, drop-cons, get_or}
 use Rattle.std.specs.List.{AllByRecursion}
-use Rattle.std.proofs.lemmas.Bool.{cases_Bool, eqb-true, eqb-false}
+use Rattle.std.proofs.lemmas.Bool.{cases_Bool, eq-eqb, eqb-true, eqb-false}
+use Rattle.urpf_base.specs.Address.{Block}
 use Rattle.urpf_base.specs.declared.kinds.Kind.{Kind}
 use Rattle.urpf_base.specs.declared.kinds.Mode.{Mode}
 use Rattle.urpf_base.specs.declared.kinds.Role.{Role}
 use Rattle.std.specs.Option.{IsSome, option_map}
 use Rattle.urpf_base.specs.declared.kinds.Role.TheVariants.{Customer, Peer, Provider}
 use Rattle.router_config.specs.Edits.{edited}
-use Rattle.router_config.specs.Kinds.{IsAscending, kind_in}
+use Rattle.router_config.specs.Kinds.{IsAscending, Row as KindRow, kind_in}
 use Rattle.router_config.specs.declared.edits.Edit.TheVariants as edit
 use Rattle.rpf_plain.specs.Walks.{HasCustomer}
 use Rattle.rpf_plain.specs.World.{IsConfigured, Roles, is_customer, is_customer_role, role_in, roles_of, with_role}
@@ -77,16 +78,31 @@ pub rest_of : (kinds : List (ℕ × Kind)) (n : ℕ) (k : ℕ × Kind) → n < l
     → drop n kinds ≡ k ∷ drop (n + 1) kinds
 rest_of kinds n k within is = drop-cons kinds n k within ∙ (λ i. sym is i ∷ drop (sym (add-one n) i) kinds)
 
+-- numbers are compared either way
+either_way : (a b : ℕ) → (a == b) ≡ (b == a)
+either_way a b =
+    elim (cases_Bool (a == b)) [
+      | inl e ↦ e ∙ sym (eq-eqb b a (sym (eqb-true a b e)))
+      | inr e ↦ elim (cases_Bool (b == a)) [
+        | inl f ↦ absurd (eqb-false a b e (sym (eqb-true b a f)))
+        | inr f ↦ e ∙ sym f
+      ]
+    ]
+
+with_its_role : (b : Bool) (k : ℕ × Kind) (role : Role)
+    → let r : KindRow = if b then (k.0, record { role = role; mode = k.1.mode }) else k in
+    ◌≡◌ {A = ℕ × Role} (r.0, r.1.role) (if b then (k.0, role) else (k.0, k.1.role))
+with_its_role true k role = refl
+with_its_role false k role = refl
+
 -- the roles once one was edited
 pub roles_edited : (iface : ℕ) (role : Role) (kinds : List (ℕ × Kind))
     → roles_of (edited (edit.Role iface role) kinds) ≡ with_role iface role (roles_of kinds)
 roles_edited iface role [] = refl
 roles_edited iface role (k ∷ kinds) =
-    let more = roles_edited iface role kinds in
-    elim (cases_Bool (k.0 == iface)) [
-      | inl e ↦ rw e (ap (λ l. (k.0, role) ∷ l) more)
-      | inr e ↦ rw e (ap (λ l. (k.0, k.1.role) ∷ l) more)
-    ]
+    (λ i. with_its_role (iface == k.0) k role i ∷ roles_edited iface role kinds i)
+    ∙ ap (λ b. (if b then (k.0, role) else (k.0, k.1.role)) ∷ with_role iface role (roles_of kinds))
+    (either_way iface k.0)
 
 -- the role of an interface is that of its kind
 role_of_kind : (kinds : List (ℕ × Kind)) (i : ℕ)
@@ -107,16 +123,28 @@ configured kinds i =
       λ h. subst IsSome (sym (role_of_kind kinds i)) (told.1 h),
     )
 
+with_its_mode : (b : Bool) (k : ℕ × Kind) (mode : Mode)
+    → let r : KindRow = if b then (k.0, record { role = k.1.role; mode = mode }) else k in
+    ◌≡◌ {A = ℕ × Role} (r.0, r.1.role) (k.0, k.1.role)
+with_its_mode true k mode = refl
+with_its_mode false k mode = refl
+
 -- a mode is no role
 pub mode_edited : (kinds : List (ℕ × Kind)) (iface : ℕ) (mode : Mode)
     → roles_of (edited (edit.Mode iface mode) kinds) ≡ roles_of kinds
 mode_edited [] iface mode = refl
 mode_edited (k ∷ kinds) iface mode =
-    let more = mode_edited kinds iface mode in
-    elim (cases_Bool (k.0 == iface)) [
-      | inl e ↦ rw e (ap (λ l. (k.0, k.1.role) ∷ l) more)
-      | inr e ↦ rw e (ap (λ l. (k.0, k.1.role) ∷ l) more)
-    ]
+    λ i. with_its_mode (iface == k.0) k mode i ∷ mode_edited kinds iface mode i
+
+-- an edit of a pair leaves the interfaces as they are
+as_they_are : (kinds : List (ℕ × Kind)) → map (λ (k : ℕ × Kind). k) kinds ≡ kinds
+as_they_are [] = refl
+as_they_are (k ∷ kinds) = ap (λ l. k ∷ l) (as_they_are kinds)
+
+pub pair_edited : (kinds : List (ℕ × Kind)) (prefix : Block) (asn : ℕ)
+    → (roles_of (edited (edit.PairAdd prefix asn) kinds) ≡ roles_of kinds)
+    × (roles_of (edited (edit.PairDel prefix asn) kinds) ≡ roles_of kinds)
+pair_edited kinds prefix asn = (ap roles_of (as_they_are kinds), ap roles_of (as_they_are kinds))
 
 -- another role leaves the interfaces as they are
 pub role_kept : (roles : Roles) (iface : ℕ) (role : Role) (i : ℕ)

@@ -14,7 +14,8 @@ use Rattle.rpf_plain.specs.Cells.{IsCell, IsTable, cell_at, empty_cell}
 use Rattle.rpf_plain.specs.Sets.{feasible, has_as, has_prefix, is_origin, list_a, list_a_with_pairs}
 use Rattle.rpf_plain.specs.Sets.{origins_of, paired, prefixes_of, received, rows_on, set_a, set_p, set_q, set_x, set_z}
 use Rattle.rpf_plain.specs.Sets.{set_z_with_pairs}
-use Rattle.rpf_plain.specs.World.{Pair, World, is_customer}
+use Rattle.origin_pairs.specs.Pairs.{Pair}
+use Rattle.rpf_plain.specs.World.{World, is_customer}
 use Rattle.rpf_plain.proofs.Changed.{same_or_other}
 use Rattle.rpf_plain.proofs.Drained.{one_cell}
 use Rattle.rpf_plain.proofs.Masks.{mask_of}

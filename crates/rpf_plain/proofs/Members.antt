@@ -7,13 +7,14 @@ use Rattle.std.proofs.lemmas.Bool.{cases_Bool, eqb-true, eq-eqb}
 use Rattle.urpf_base.specs.Address.{Block}
 use Rattle.urpf_base.specs.Lists.{Has}
 use Rattle.urpf_base.specs.Order.{prefix_order}
+use Rattle.origin_pairs.specs.Pairs.{Pair}
 use Rattle.prefix_map.proofs.Order.{prefix_total, prefix_ties}
 use Rattle.std.specs.Cmp.{tied_itself}
 use Rattle.std.specs.declared.cmp.Ordering.{Ordering}
 use Rattle.std.specs.declared.cmp.Ordering.TheVariants.{Less, Equal, Greater}
 use Rattle.rpf_plain.specs.declared.rows.Row.{Row}
 use Rattle.rpf_plain.specs.Sets.{has_as, has_origin, has_prefix, is_origin, origins_of, prefixes_of}
-use Rattle.rpf_plain.specs.Sets.{union}
+use Rattle.rpf_plain.specs.Sets.{paired, union}
 use Rattle.rpf_plain.specs.Walks.{SomeRow}
 
 -- some row is so by other words
@@ -172,5 +173,33 @@ in_union f t (n ∷ ns) p =
           | inl same ↦ let yes_n : t n ≡ true = subst (λ k. t k ≡ true) same is in absurd cc
           | inr later ↦ (m, later, is, there)
         ])),
+      )
+    ]
+
+-- the prefixes of the pairs whose AS is in a list
+pub in_paired : (pairs : List Pair) (ns : List ℕ) (p : Block)
+    → (Has (paired pairs ns) p ↔ ((n : ℕ) × Has pairs (p, n) × Has ns n))
+in_paired [] ns p = (λ h. absurd h, λ h. absurd h.1)
+in_paired (pair ∷ pairs) ns p =
+    let more = in_paired pairs ns p in
+    elim (cases_Bool (has_as ns pair.1)) [
+      | inl e ↦ (
+        λ h. elim (rw e at h) [
+          | inl same ↦ (pair.1, inl (λ i. (same i, pair.1)), (has_as_by ns pair.1).0 e)
+          | inr later ↦ let (n, has, there) = more.0 later in (n, inr has, there)
+        ],
+        λ (n, has, there). rw e (elim has [
+          | inl same ↦ inl (ap (λ q. q.0) same)
+          | inr later ↦ inr (more.1 (n, later, there))
+        ]),
+      )
+      | inr e ↦ (
+        λ h. let (n, has, there) = more.0 (rw e at h) in (n, inr has, there),
+        λ (n, has, there). rw e (elim has [
+          | inl same ↦
+              let yes_n : has_as ns pair.1 ≡ true =
+              (has_as_by ns pair.1).1 (subst (Has ns) (ap (λ q. q.1) same) there) in absurd cc
+          | inr later ↦ more.1 (n, later, there)
+        ]),
       )
     ]

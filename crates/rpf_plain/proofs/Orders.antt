@@ -1,4 +1,4 @@
--- The order of rows is the one that their comparison computes, it is total, and ties are equal.
+-- The order of rows is total, and ties are equal.
 use Rattle.std.proofs.Common.{◌≡◌, ℕ, refl, ap, subst, true, Option, Some, None}
 use Rattle.std.specs.declared.cmp.Ordering.{Ordering}
 use Rattle.std.specs.declared.cmp.Ordering.TheVariants.{Less, Equal, Greater}
@@ -9,18 +9,7 @@ use Rattle.std.specs.FinMap.{IsAntisymmetric, nat_cmp-IsAntisymmetric}
 use Rattle.urpf_base.specs.Order.{prefix_order}
 use Rattle.prefix_map.proofs.Order.{prefix_total, prefix_ties, first_tie, second_tie}
 use Rattle.rpf_plain.specs.declared.rows.Row.{Row}
-use Rattle.rpf_plain.specs.contracts.rows.RowOrd.TheImpl as row_ord
 use Rattle.rpf_plain.specs.Rows.{row_order}
-use Rattle.urpf_base.proofs.Order.{compares}
-
--- what the comparison of the type computes
-abbrev pub own_order : Row → Row → Ordering
-own_order = (row_ord.ghosts).cmp
-
-pub order_agrees : own_order ≡ row_order
-order_agrees i a b =
-    ordering_then (compares a.prefix b.prefix i)
-    (ordering_then (nat_cmp a.iface b.iface) (option_cmp nat_cmp a.origin b.origin))
 
 abbrev known : Option ℕ → ℕ
 known None = 0

@@ -1,20 +1,23 @@
 -- How often rows stand in the list that a map of rows stands for.
-use Rattle.std.proofs.Common.{◌≡◌, inl, inr, ℕ, zero, suc, ◌+◌, ◌<◌, ◌≤◌, Bool, true, false, cond, List, [], ◌∷◌}
-use Rattle.std.proofs.Common.{◌++◌, length, refl, sym, ap, subst, ◌∙◌, Option, Some, None, arith, length-append}
+use Rattle.std.proofs.Common.{◌≡◌, inl, inr, ℕ, zero, suc, ◌+◌, ◌<◌, Bool, true, false, cond, not, List, [], ◌∷◌}
+use Rattle.std.proofs.Common.{◌++◌, refl, sym, ap, subst, ◌∙◌, Option, Some, None, arith, add-one}
 use Rattle.std.specs.declared.cmp.Ordering.{Ordering}
 use Rattle.std.specs.declared.cmp.Ordering.TheVariants.{Less}
-use Rattle.std.specs.Ordering.{is_eq}
-use Rattle.std.specs.Cmp.{eq_by_cmp_equiv}
-use Rattle.std.specs.List.{AllByRecursion}
+use Rattle.std.specs.Ordering.{eq_by_cmp, is_eq}
+use Rattle.std.specs.Cmp.{alike_right, eq_by_cmp_equiv}
+use Rattle.std.specs.FinMap.{find, is_sorted, put}
+use Rattle.std.specs.FinMap.Entries.{find-put, find-where_key}
+use Rattle.std.specs.List.{AllByRecursion, filter}
 use Rattle.std.specs.List.Sorted.{IsStrictlySortedBy}
 use Rattle.std.specs.Map.{keys_of, lookup}
 use Rattle.std.proofs.lemmas.Bool.{cases_Bool}
 use Rattle.std.proofs.lemmas.Map.Keys.{sorted_head, sorted_tail}
 use Rattle.urpf_base.specs.Lists.{Has}
+use Rattle.prefix_map.proofs.Sorted.{find-lookup, head_below, tail_sorted}
 use Rattle.rpf_plain.specs.declared.rows.Row.{Row}
-use Rattle.rpf_plain.specs.Kept.{AreInOrder, again, all_rows, how_often}
+use Rattle.rpf_plain.specs.Kept.{again, all_rows, how_often}
 use Rattle.rpf_plain.specs.Rows.{row_order, repeats, AreSameRows}
-use Rattle.rpf_plain.proofs.Orders.{own_order, order_agrees, row_total, same_from_tie, tie}
+use Rattle.rpf_plain.proofs.Orders.{row_total, same_from_tie, tie}
 
 pub repeats-append : (xs ys : List Row) (r : Row) → repeats (xs ++ ys) r ≡ repeats xs r + repeats ys r
 repeats-append [] ys r = omega arith
@@ -82,10 +85,6 @@ SetAt R row value es fs = (q : Row) → found R fs q ≡ cond (is_eq (R row q)) 
 abbrev pub AreSorted : (Row → Row → Ordering) → List (Row × ℕ) → Type 0
 AreSorted R es = IsStrictlySortedBy R (keys_of es)
 
--- rows that ascend by the comparison of the type are in order
-pub in_order : (es : List (Row × ℕ)) → AreSorted own_order es → AreInOrder es
-in_order es sorted = subst (λ R. IsStrictlySortedBy R (keys_of es)) order_agrees sorted
-
 repeats-set : (row q : Row) (value : Option ℕ) (es fs : List (Row × ℕ)) → AreSorted row_order es
     → AreSorted row_order fs
     → SetAt row_order row value es fs
@@ -130,41 +129,72 @@ once_less row a b es fs old new is was less q =
       | inr e ↦ let after : repeats (all_rows fs) q ≡ repeats (all_rows es) q = rw e at set in rw e (omega arith)
     ]
 
--- the same by the comparison of the type
-pub adds : (row : Row) (n : ℕ) (es fs : List (Row × ℕ)) → AreInOrder es → AreInOrder fs
-    → SetAt own_order row (Some n) es fs → n ≡ how_often (found own_order es row)
-    → AreSameRows (all_rows fs) (row ∷ all_rows es)
-adds row n es fs old new =
-    let Adds : (Row → Row → Ordering) → Type 0 =
-    λ R. SetAt R row (Some n) es fs → n ≡ how_often (found R es row) → AreSameRows (all_rows fs) (row ∷ all_rows es) in
-    subst Adds (sym order_agrees) (λ is n_is. once_more row _ _ es fs old new is refl (omega arith))
+ordered_keys : (P : Row → Type 0) (es : List (Row × ℕ)) → AllByRecursion (λ e. P e.0) es → AllByRecursion P (keys_of es)
+ordered_keys P [] h = tt
+ordered_keys P (e ∷ es) h = (h.0, ordered_keys P es h.1)
 
-pub takes : (row : Row) (value : Option ℕ) (es fs : List (Row × ℕ)) → AreInOrder es → AreInOrder fs
-    → SetAt own_order row value es fs → how_often value + 1 ≡ how_often (found own_order es row)
+-- entries that pass the test of a finite map have keys that ascend
+pub ordered : (es : List (Row × ℕ)) → is_sorted row_order es ≡ true → AreSorted row_order es
+unfolding IsStrictlySortedBy
+ordered [] h = tt
+ordered (e ∷ es) h = (
+  ordered_keys (λ k. row_order e.0 k ≡ Less) es (head_below row_order e es h),
+  ordered es (tail_sorted row_order e es h),
+)
+
+-- an entry that is put in is at its row, and one that is dropped at none
+set_by_put : (row : Row) (n : ℕ) (es : List (Row × ℕ)) → SetAt row_order row (Some n) es (put row_order row n es)
+set_by_put row n es q =
+    sym (find-lookup row_order q (put row_order row n es)) ∙ find-put row_order row_total q row n es
+    ∙ ap (λ b. cond b (Some n) (find row_order q es)) (flip q row)
+    ∙ ap (λ o. cond (is_eq (row_order row q)) (Some n) o) (find-lookup row_order q es)
+
+-- the entries of all other rows
+abbrev pub others : Row → List (Row × ℕ) → List (Row × ℕ)
+others row es = filter (λ e. not (eq_by_cmp row_order row e.0)) es
+
+set_by_drop : (row : Row) (es : List (Row × ℕ)) → SetAt row_order row None es (others row es)
+set_by_drop row es q =
+    sym (find-lookup row_order q (others row es))
+    ∙ find-where_key row_order (λ k. not (is_eq (row_order row k))) q
+    (λ x t. ap (λ r. not (is_eq r)) (sym (alike_right row_total q x row t))) es
+    ∙ turned (is_eq (row_order row q)) (find row_order q es) None
+    ∙ ap (λ o. cond (is_eq (row_order row q)) None o) (find-lookup row_order q es)
+  where
+    turned : {A : Type 0} (b : Bool) (x y : A) → cond (not b) x y ≡ cond b y x
+    turned true x y = refl
+    turned false x y = refl
+
+-- a row is added where its entry is put in with one more
+pub adds : (row : Row) (es fs : List (Row × ℕ)) → is_sorted row_order es ≡ true → is_sorted row_order fs ≡ true
+    → fs ≡ put row_order row (how_often (found row_order es row)) es → AreSameRows (all_rows fs) (row ∷ all_rows es)
+adds row es fs old new is =
+    let n = how_often (found row_order es row) in
+    once_more row (found row_order es row) (Some n) es fs (ordered es old) (ordered fs new)
+    (subst (SetAt row_order row (Some n) es) (sym is) (set_by_put row n es)) refl refl
+
+-- a row of the list is there once or more
+there : (row : Row) (es : List (Row × ℕ)) → AreSorted row_order es → Has (all_rows es) row
+    → 0 < how_often (found row_order es row)
+there row es sorted has =
+    let is = repeats-all_rows es row sorted in
+    let some = repeats-some (all_rows es) row has in
+    omega arith
+
+-- a row is taken away where its entry is dropped, or put in with one less
+pub takes : (row : Row) (es fs : List (Row × ℕ)) → is_sorted row_order es ≡ true → is_sorted row_order fs ≡ true
+    → Has (all_rows es) row → (found row_order es row ≡ Some 0 → fs ≡ others row es)
+    → ((n : ℕ) → found row_order es row ≡ Some (n + 1) → fs ≡ put row_order row n es)
     → AreSameRows (all_rows es) (row ∷ all_rows fs)
-takes row value es fs old new =
-    let Takes : (Row → Row → Ordering) → Type 0 =
-    λ R. SetAt R row value es fs → how_often value + 1 ≡ how_often (found R es row)
-    → AreSameRows (all_rows es) (row ∷ all_rows fs) in
-    subst Takes (sym order_agrees) (λ is less. once_less row _ value es fs old new is refl less)
-
-length-again : (n : ℕ) (r : Row) → length (again n r) ≡ n + 1
-length-again zero r = refl
-length-again (suc n) r = let more = length-again n r in omega arith
-
--- what a look-up finds is no more than there are rows
-pub few : (test : Row → Bool) (es : List (Row × ℕ)) → how_often (lookup test es) ≤ length (all_rows es)
-few test [] = omega arith
-few test (d ∷ es) =
-    let parts : length (all_rows (d ∷ es)) ≡ d.1 + 1 + length (all_rows es) =
-    length-append (again d.1 d.0) (all_rows es) ∙ ap (λ n. n + length (all_rows es)) (length-again d.1 d.0) in
-    let later = few test es in
-    elim (cases_Bool (test d.0)) [ inl e ↦ rw e (omega arith) | inr e ↦ rw e (omega arith) ]
-
--- it is something where the row is there
-pub there : (row : Row) (es : List (Row × ℕ)) → AreInOrder es → Has (all_rows es) row
-    → 0 < how_often (found own_order es row)
-there row es sorted =
-    let There : (Row → Row → Ordering) → Type 0 = λ R. Has (all_rows es) row → 0 < how_often (found R es row) in
-    subst There (sym order_agrees)
-    (λ has. let is = repeats-all_rows es row sorted in let some = repeats-some (all_rows es) row has in omega arith)
+takes row es fs old new has last fewer =
+    by (found row_order es row) refl (there row es (ordered es old) has)
+  where
+    by : (o : Option ℕ) → found row_order es row ≡ o → 0 < how_often o → AreSameRows (all_rows es) (row ∷ all_rows fs)
+    by None is some = absurd (omega arith)
+    by (Some zero) is some =
+        once_less row (Some 0) None es fs (ordered es old) (ordered fs new)
+        (subst (SetAt row_order row None es) (sym (last is)) (set_by_drop row es)) is refl
+    by (Some (suc n)) is some =
+        let one_less : fs ≡ put row_order row n es = fewer n (is ∙ ap (λ m. Some m) (sym (add-one n))) in
+        once_less row (Some (suc n)) (Some n) es fs (ordered es old) (ordered fs new)
+        (subst (SetAt row_order row (Some n) es) (sym one_less) (set_by_put row n es)) is (omega arith)

@@ -1,20 +1,24 @@
 -- Tables of cells, once a prefix was given another one.
-use Rattle.std.proofs.Common.{◌≡◌, ◌⊎◌, ◌↔◌, inl, inr, sym, ap, subst, ◌∙◌, Some, None}
-use Rattle.std.specs.FinMap.{empty, get, insert}
+use Rattle.std.proofs.Common.{◌≡◌, ◌⊎◌, ◌↔◌, inl, inr, refl, sym, ap, subst, ◌∙◌, Bool, true, false, cond, Option, Some}
+use Rattle.std.proofs.Common.{None}
+use Rattle.std.specs.FinMap.{empty, get, get-insert, insert, same_map}
+use Rattle.std.specs.Ordering.{eq_by_cmp}
+use Rattle.urpf_base.specs.Order.{prefix_order}
 use Rattle.urpf_base.specs.Address.{Block}
 use Rattle.urpf_base.specs.declared.cells.Cell.{Cell}
 use Rattle.prefix_map.specs.Mapped.{Mapped}
 use Rattle.prefix_map.proofs.Held.{none_held, set_here, set_others}
-use Rattle.prefix_map.proofs.Order.{same_or_not}
+use Rattle.prefix_map.proofs.Order.{prefix_ties, prefix_total, same_or_not}
 use Rattle.rpf_plain.specs.Cells.{cell_at, cell_or_empty, empty_cell}
 use Rattle.rpf_plain.specs.Walks.{IsFilled}
+use Rattle.rpf_plain.specs.Written.{at_hand, with_hand}
 
 -- an empty table has the empty cell everywhere
 pub nothing : (m : Mapped Cell) (p : Block) → m ≡ empty → cell_at m p ≡ empty_cell
 nothing m p is = ap cell_or_empty (none_held m p is)
 
 pub nothing_filled : (m : Mapped Cell) → m ≡ empty → IsFilled m
-nothing_filled m is p c there = let none : get m p ≡ None = none_held m p is in absurd cc
+nothing_filled m is p there = let none : get m p ≡ None = none_held m p is in absurd cc
 
 module _ (m n : Mapped Cell) (p : Block) (c : Cell) (is : n ≡ insert m p c) where
   pub here : (q : Block) → p ≡ q → cell_at n q ≡ c
@@ -52,13 +56,41 @@ module _ (m n : Mapped Cell) (p : Block) (c : Cell) (is : n ≡ insert m p c) wh
         )
       ]
 
-  -- a table without empty sets of interfaces is still one
-  pub filled_at : ¬ (c.f ≡ 0) → IsFilled m → IsFilled n
-  filled_at some filled q d there =
+  -- a table without empty cells is still one
+  pub filled_at : ¬ (c ≡ empty_cell) → IsFilled m → IsFilled n
+  filled_at some filled q there =
       elim (same_or_not p q) [
         | inl e ↦
             let new : get n q ≡ Some c = subst (λ z. get n z ≡ Some c) e (set_here m n p c is) in
-            let same : c ≡ d = cc in
-            λ none. some (ap (λ x. x.f) same ∙ none)
-        | inr other ↦ filled q d (sym (set_others m n p c is q (λ e. other (sym e))) ∙ there)
+            let same : c ≡ empty_cell = cc in
+            some same
+        | inr other ↦ filled q (sym (set_others m n p c is q (λ e. other (sym e))) ∙ there)
       ]
+
+instead : {X : Type 0} (b : Bool) (new old : Option X) (or : Option X) → cond b new (cond b old or) ≡ cond b new or
+instead true new old or = refl
+instead false new old or = refl
+
+-- a prefix that is given a second cell has that one alone
+pub twice : (m : Mapped Cell) (p : Block) (c d : Cell) → insert (insert m p c) p d ≡ insert m p d
+twice m p c d =
+    same_map prefix_total prefix_ties _ _
+    (λ q. get-insert prefix_total (insert m p c) p d q
+    ∙ ap (cond (eq_by_cmp prefix_order q p) (Some d)) (get-insert prefix_total m p c q)
+    ∙ instead (eq_by_cmp prefix_order q p) (Some d) (Some c) (get m q)
+    ∙ sym (get-insert prefix_total m p d q))
+
+-- the cell at hand is that of its prefix
+pub at_hand_is : (hand : Option (Block × Cell)) (cells : Mapped Cell) (at p : Block) (c : Cell) → hand ≡ Some (at, c)
+    → at ≡ p → cell_at (with_hand hand cells) p ≡ c
+at_hand_is hand cells at p c is same =
+    let whole : with_hand hand cells ≡ insert cells at c = ap (λ h. with_hand h cells) is in
+    here cells (with_hand hand cells) at c whole p same
+
+-- a prefix whose cell is at hand is given another one without that
+pub put_again : (hand : Option (Block × Cell)) (cells : Mapped Cell) (p : Block) (c : Cell) → at_hand hand ≡ Some p
+    → insert cells p c ≡ insert (with_hand hand cells) p c
+put_again None cells p c is = cc
+put_again (Some e) cells p c is =
+    let same : e.0 ≡ p = cc in
+    subst (λ q. insert cells p c ≡ insert (insert cells q e.1) p c) (sym same) (sym (twice cells p e.1 c))

@@ -1,8 +1,10 @@
 -- A walk over rows: what was found in the rows so far, and what is found in those to come, is all.
 use Rattle.std.proofs.Common.{◌≡◌, ◌≢◌, ◌⊎◌, ◌↔◌, inl, inr, ℕ, List, [], ◌∷◌, refl, sym, subst, arith, IsTrue, true}
-use Rattle.std.proofs.Common.{false}
+use Rattle.std.proofs.Common.{ap, false}
 use Rattle.std.proofs.lemmas.Bool.{cases_eq}
 use Rattle.urpf_base.specs.Masks.{InMask}
+use Rattle.urpf_base.specs.declared.cells.Cell.{Cell}
+use Rattle.rpf_plain.specs.Cells.{empty_cell}
 use Rattle.rpf_plain.specs.declared.rows.Row.{Row}
 use Rattle.rpf_plain.specs.Walks.{SomeRow}
 
@@ -13,6 +15,10 @@ no_member i h = absurd (grind arith)
 -- a set with a member is not empty
 pub not_empty : (m i : ℕ) → InMask m i → ¬ (m ≡ 0)
 not_empty m i h e = no_member i (subst (λ n. InMask n i) e h)
+
+-- a cell whose set of interfaces has a member is not the empty one
+pub some_cell : (c : Cell) (i : ℕ) → InMask c.f i → ¬ (c ≡ empty_cell)
+some_cell c i h e = not_empty c.f i h (ap (λ x. x.f) e)
 
 -- one more row was looked at
 pub moved : {A H R T N : Type 0} → ((A ⊎ (H ⊎ R)) ↔ T) → (N ↔ (A ⊎ H)) → ((N ⊎ R) ↔ T)
@@ -61,6 +67,13 @@ either_by told same = (
   λ h. told.1 (elim h [ inl a ↦ inl a | inr (e, g) ↦ inr (e, same.1 g) ]),
 )
 
+-- on either side by other words
+pub sides : {A B C D : Type 0} → (A ↔ B) → (C ↔ D) → ((A ⊎ C) ↔ (B ⊎ D))
+sides f g = (
+  λ h. elim h [ inl a ↦ inl (f.0 a) | inr c ↦ inr (g.0 c) ],
+  λ h. elim h [ inl b ↦ inl (f.1 b) | inr d ↦ inr (g.1 d) ],
+)
+
 -- one after the other
 pub both : {A B C : Type 0} → (A ↔ B) → (B ↔ C) → (A ↔ C)
 both f g = (λ a. g.0 (f.0 a), λ c. f.1 (g.1 c))
@@ -79,3 +92,20 @@ never all none = (λ h. absurd cc, λ t. absurd (none (all.1 t)))
 -- this row is so
 pub one_is : {H R T : Type 0} → ((H ⊎ R) ↔ T) → H → (IsTrue true ↔ T)
 one_is all is = (λ _. all.0 (inl is), λ _. refl)
+
+-- what is known of all rows is known with what is to come
+pub known : {A H R N T : Type 0} → ((A ⊎ (H ⊎ R)) ↔ T) → (N ↔ T) → ((N ⊎ R) ↔ T)
+known all whole = (
+  λ h. elim h [ inl n ↦ whole.0 n | inr r ↦ all.0 (inr (inr r)) ],
+  λ t. inl (whole.1 t),
+)
+
+-- a row that is not so was passed over, and what was found before is as it was
+pub passed_over : {A H R T : Type 0} → ((A ⊎ (H ⊎ R)) ↔ T) → (H → ⊥) → ((A ⊎ R) ↔ T)
+passed_over all none = (
+  λ h. elim h [ inl a ↦ all.0 (inl a) | inr r ↦ all.0 (inr (inr r)) ],
+  λ t. elim (all.1 t) [
+    | inl a ↦ inl a
+    | inr rest ↦ elim rest [ inl h ↦ absurd (none h) | inr r ↦ inr r ]
+  ],
+)

@@ -16,8 +16,9 @@ use Rattle.router_config.specs.Kinds.{kind_in}
 use Rattle.rpf_plain.specs.declared.rows.Row.{Row}
 use Rattle.rpf_plain.specs.Modes.{IsVerdict, IsVerdictBy, IsVerdictFor, SomeCovers, set_in, set_of}
 use Rattle.rpf_plain.specs.Sets.{prefixes_of}
-use Rattle.rpf_plain.specs.World.{Pair, Roles, World, roles_of, world_for}
-use Rattle.rpf_plain.proofs.Alike.{AreIn, in_feasible, in_list, in_z, world}
+use Rattle.origin_pairs.specs.Pairs.{AreSamePairs, Pair}
+use Rattle.rpf_plain.specs.World.{Roles, World, roles_of, world_for}
+use Rattle.rpf_plain.proofs.Alike.{AreIn, ArePairsIn, in_feasible, in_list, in_z, world}
 use Rattle.rpf_plain.proofs.Modal.{a_prefix, in_no_defaults, some_prefix}
 
 -- the first bits agree or they do not
@@ -110,43 +111,44 @@ in_any : (a b : List Row) → AreIn a b → (p : Block) → Has (prefixes_of a) 
 in_any a b within p h =
     let (r, has, is) = some_prefix a p h in subst (Has (prefixes_of b)) is (a_prefix b r (within r has))
 
-module _ (a b : List Row) (within : AreIn a b) (roles : Roles) (pairs : List Pair) (i : ℕ) where
-  -- the set of each mode has no fewer prefixes where there are more rows
-  in_mode : (m : Mode) (p : Block) → Has (set_in m (world roles pairs a) i) p
-      → Has (set_in m (world roles pairs b) i) p
+module _ (a b : List Row) (within : AreIn a b) (roles : Roles) (pairs like : List Pair)
+    (pairs_within : ArePairsIn pairs like) (i : ℕ) where
+  -- the set of each mode has no fewer prefixes where there are more rows and pairs
+  in_mode : (m : Mode) (p : Block) → Has (set_in m (world roles pairs a) i) p → Has (set_in m (world roles like b) i) p
   in_mode Off p h = h
-  in_mode Feasible p h = in_feasible a b within roles pairs i p h
+  in_mode Feasible p h = in_feasible a b within roles pairs like pairs_within i p h
   in_mode Loose p h = in_any a b within p h
   in_mode LooseNoDefault p h =
       let told = (in_no_defaults (prefixes_of a) p).0 h in
       (in_no_defaults (prefixes_of b) p).1 (in_any a b within p told.0, told.1)
-  in_mode EfpA p h = in_list a b within roles pairs i p h
-  in_mode EfpB p h = in_z a b within roles pairs p h
+  in_mode EfpA p h = in_list a b within roles pairs like pairs_within i p h
+  in_mode EfpB p h = in_z a b within roles pairs like pairs_within p h
 
   covers_by : (kind : Kind) (source : Addr) → SomeCovers (set_of kind (world roles pairs a) i) source
-      → SomeCovers (set_of kind (world roles pairs b) i) source
+      → SomeCovers (set_of kind (world roles like b) i) source
   covers_by kind source some =
       let (p, has, covers) = some in (p, in_mode (mode_for kind.role kind.mode) p has, covers)
 
-module _ (a b : List Row) (to : AreIn a b) (from : AreIn b a) (roles : Roles) (pairs : List Pair) (i : ℕ) where
+module _ (a b : List Row) (to : AreIn a b) (from : AreIn b a) (roles : Roles) (pairs like : List Pair)
+    (there : ArePairsIn pairs like) (back : ArePairsIn like pairs) (i : ℕ) where
   same_by : (kind : Kind) (source : Addr) (answer : Verdict) → IsVerdictBy kind (world roles pairs a) i source answer
-      → IsVerdictBy kind (world roles pairs b) i source answer
-  same_by kind source Pass is = covers_by a b to roles pairs i kind source is
-  same_by kind source Drop is = λ some. is (covers_by b a from roles pairs i kind source some)
+      → IsVerdictBy kind (world roles like b) i source answer
+  same_by kind source Pass is = covers_by a b to roles pairs like there i kind source is
+  same_by kind source Drop is = λ some. is (covers_by b a from roles like pairs back i kind source some)
   same_by kind source BadHead is = is
   same_by kind source NoIface is = is
 
   same_for : (o : Option Kind) (source : Option Addr) (answer : Verdict)
-      → IsVerdictFor o (world roles pairs a) i source answer → IsVerdictFor o (world roles pairs b) i source answer
+      → IsVerdictFor o (world roles pairs a) i source answer → IsVerdictFor o (world roles like b) i source answer
   same_for None source answer is = is
   same_for (Some kind) None answer is = is
   same_for (Some kind) (Some source) answer is = same_by kind source answer is
 
--- where the same rows are there the verdict is the same
+-- where the same rows and pairs are there the verdict is the same
 pub same_verdict : (kinds : List (ℕ × Kind)) (rows others : List Row)
-    → ((row : Row) → Has rows row ↔ Has others row)
-    → (pairs : List Pair) (iface : ℕ) (source : Option Addr) (answer : Verdict)
-    → IsVerdict kinds rows pairs iface source answer → IsVerdict kinds others pairs iface source answer
-same_verdict kinds rows others same pairs iface source answer is =
-    same_for rows others (λ r. (same r).0) (λ r. (same r).1) (roles_of kinds) pairs iface (kind_in kinds iface) source
-    answer is
+    → ((row : Row) → Has rows row ↔ Has others row) → (pairs like : List Pair) → AreSamePairs pairs like → (iface : ℕ)
+    (source : Option Addr) (answer : Verdict) → IsVerdict kinds rows pairs iface source answer
+    → IsVerdict kinds others like iface source answer
+same_verdict kinds rows others same pairs like same_pairs iface source answer is =
+    same_for rows others (λ r. (same r).0) (λ r. (same r).1) (roles_of kinds) pairs like (λ q. (same_pairs q).0)
+    (λ q. (same_pairs q).1) iface (kind_in kinds iface) source answer is

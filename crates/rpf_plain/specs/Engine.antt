@@ -4,6 +4,7 @@ use Rattle.std.specs.FinMap.{empty}
 use Rattle.urpf_base.specs.declared.cells.Cell.{Cell}
 use Rattle.urpf_base.specs.declared.kinds.Role.{Role}
 use Rattle.prefix_map.specs.Mapped.{Mapped}
+use Rattle.origin_pairs.specs.Pairs.{HasOneMore, Pair}
 use Rattle.rpf_plain.specs.Cells.{IsTable}
 use Rattle.rpf_plain.specs.Rows.{AreSameRows}
 use Rattle.rpf_plain.specs.World.{Roles, World, with_role}
@@ -35,6 +36,17 @@ pub record SetsRole (iface : ℕ) (role : Role) (old new : EngineState) : Type 0
   pub roles : new.world.roles ≡ with_role iface role old.world.roles
   pub pairs : new.world.pairs ≡ old.world.pairs
   pub base : new.base ≡ old.base
+
+-- the new pairs are the old ones and this one, which was not there, and all else is as it was
+pub record AddsPair (pair : Pair) (old new : EngineState) : Type 0 where
+  pub rows : new.world.rows ≡ old.world.rows
+  pub roles : new.world.roles ≡ old.world.roles
+  pub pairs : HasOneMore pair old.world.pairs new.world.pairs
+  pub base : new.base ≡ old.base
+
+-- the old pairs are the new ones and this one, which is there no more, and all else is as it was
+abbrev pub RemovesPair : Pair → EngineState → EngineState → Type 0
+RemovesPair pair old new = AddsPair pair new old
 
 -- the table has the cells of now, and the world is as it was
 pub record IsDrained (old new : EngineState) : Type 0 where

@@ -2,7 +2,6 @@
 use Rattle.std.specs.Prelude.{◌≡◌, Bool, ℕ, zero, suc, List, [], ◌∷◌, ◌++◌, map, Option, Some, None, ◌+◌}
 use Rattle.std.specs.Coded.{Coded, code_by, coded×, coded_bool, coded_list, coded_option, coded_ℕ}
 use Rattle.std.proofs.Common.{refl}
-use Rattle.std.specs.List.Sorted.{IsStrictlySortedBy}
 use Rattle.urpf_base.specs.Address.{Block}
 use Rattle.urpf_base.specs.declared.cells.Cell.{Cell}
 use Rattle.urpf_base.specs.declared.kinds.Role.{Role}
@@ -11,7 +10,6 @@ use Rattle.prefix_map.specs.Kept.{block_code, map_code}
 use Rattle.prefix_map.specs.Mapped.{Mapped}
 use Rattle.rpf_plain.specs.Engine.{EngineState}
 use Rattle.rpf_plain.specs.World.{World}
-use Rattle.rpf_plain.specs.Rows.{row_order}
 use Rattle.rpf_plain.specs.declared.rows.Row.{Row}
 
 -- the row once, and so often again
@@ -32,10 +30,6 @@ all_rows (e ∷ es) = again e.1 e.0 ++ all_rows es
 -- the rows, each once
 abbrev pub each_row : List (Row × ℕ) → List Row
 each_row es = map (λ e. e.0) es
-
--- the rows ascend
-abbrev pub AreInOrder : List (Row × ℕ) → Type 0
-AreInOrder es = IsStrictlySortedBy row_order (each_row es)
 
 -- how rows are told apart
 abbrev pub row_code : Coded Row

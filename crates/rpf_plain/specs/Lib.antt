@@ -1,8 +1,11 @@
+pub mod Ahead
 pub mod Cells
 pub mod Engine
 pub mod Kept
 pub mod Modes
+pub mod RowKeys
 pub mod Rows
 pub mod Sets
 pub mod Walks
 pub mod World
+pub mod Written

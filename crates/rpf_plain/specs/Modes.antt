@@ -15,7 +15,8 @@ use Rattle.urpf_base.specs.declared.kinds.Mode.TheVariants.{Off, Feasible, Loose
 use Rattle.urpf_base.specs.declared.verdicts.Verdict.{Verdict}
 use Rattle.urpf_base.specs.declared.verdicts.Verdict.TheVariants as verdict
 use Rattle.router_config.specs.Kinds.{kind_in}
-use Rattle.rpf_plain.specs.World.{Pair, World, world_for}
+use Rattle.origin_pairs.specs.Pairs.{Pair}
+use Rattle.rpf_plain.specs.World.{World, world_for}
 use Rattle.rpf_plain.specs.declared.rows.Row.{Row}
 use Rattle.rpf_plain.specs.Sets.{any, feasible, list_a_with_pairs, set_z_with_pairs}
 

@@ -6,7 +6,8 @@ use Rattle.std.specs.List.{filter, list_any}
 use Rattle.std.specs.Ordering.{is_eq}
 use Rattle.urpf_base.specs.Address.{Block}
 use Rattle.urpf_base.specs.Order.{prefix_order}
-use Rattle.rpf_plain.specs.World.{Pair, World, is_customer}
+use Rattle.origin_pairs.specs.Pairs.{Pair}
+use Rattle.rpf_plain.specs.World.{World, is_customer}
 use Rattle.rpf_plain.specs.declared.rows.Row.{Row}
 
 abbrev pub prefixes_of : List Row → List Block

@@ -1,4 +1,4 @@
--- What walks over the rows find: the sets, told by which rows there are.
+-- What walks over the rows and the pairs find: the sets, told by which rows and pairs there are.
 use Rattle.std.specs.Prelude.{◌≡◌, ◌↔◌, ◌⊎◌, ℕ, false, IsTrue, List, [], ◌∷◌, Option, Some, None, unwrap_or}
 use Rattle.std.specs.BTreeMap.{BTreeMap}
 use Rattle.std.specs.BTreeMap as tree
@@ -9,8 +9,9 @@ use Rattle.urpf_base.specs.Masks.{InMask}
 use Rattle.urpf_base.specs.declared.cells.Cell.{Cell}
 use Rattle.urpf_base.specs.declared.kinds.Kind.{Kind}
 use Rattle.urpf_base.specs.declared.kinds.Role.TheVariants.{Customer}
+use Rattle.origin_pairs.specs.Pairs.{Pair}
 use Rattle.prefix_map.specs.Mapped.{Mapped}
-use Rattle.rpf_plain.specs.Cells.{cell_at}
+use Rattle.rpf_plain.specs.Cells.{cell_at, empty_cell}
 use Rattle.rpf_plain.specs.declared.origins.Reach.{Reach}
 use Rattle.rpf_plain.specs.declared.rows.Row.{Row}
 
@@ -75,25 +76,43 @@ IsForSetZ rows customers p row = (row.prefix ≡ p) × IsAdmitted rows customers
 abbrev pub InSetZ : List Row → ℕ → Block → Type 0
 InSetZ rows customers p = SomeRow (IsForSetZ rows customers p) rows
 
--- no prefix of the table has a cell without interfaces
+-- the row is of the origin and the interface
+abbrev pub IsOwn : ℕ → ℕ → Row → Type 0
+IsOwn origin i row = (row.origin ≡ Some origin) × (row.iface ≡ i)
+
+-- the interface has a row of the origin
+abbrev pub Owns : List Row → ℕ → ℕ → Type 0
+Owns rows origin i = SomeRow (IsOwn origin i) rows
+
+-- some pair of the list is so
+abbrev pub SomePair : (Pair → Type 0) → List Pair → Type 0
+SomePair Is [] = ⊥
+SomePair Is (pair ∷ pairs) = Is pair ⊎ SomePair Is pairs
+
+-- the pair is of the prefix, and the interface is a customer's that has a row of its AS
+abbrev pub IsPairListed : List Row → ℕ → ℕ → Block → Pair → Type 0
+IsPairListed rows customers i p pair = (pair.0 ≡ p) × (InMask customers i × Owns rows pair.1 i)
+
+-- the pair is of the prefix, and its AS is in Set A
+abbrev pub IsPairForSetZ : List Row → ℕ → Block → Pair → Type 0
+IsPairForSetZ rows customers p pair = (pair.0 ≡ p) × InSetA rows customers pair.1
+
+-- the prefix is in the list by Algorithm A of the customer interface, by a row or by a pair
+abbrev pub InListWithPairs : List Row → List Pair → ℕ → ℕ → Block → Type 0
+InListWithPairs rows pairs customers i p =
+    InListA rows customers i p ⊎ SomePair (IsPairListed rows customers i p) pairs
+
+-- the prefix is in Set Z, by a row or by a pair
+abbrev pub InSetZWithPairs : List Row → List Pair → ℕ → Block → Type 0
+InSetZWithPairs rows pairs customers p = InSetZ rows customers p ⊎ SomePair (IsPairForSetZ rows customers p) pairs
+
+-- no prefix of the table has the empty cell
 abbrev pub IsFilled : Mapped Cell → Type 0
-IsFilled cells = (p : Block) (c : Cell) → get cells p ≡ Some c → ¬ (c.f ≡ 0)
-
--- what Algorithms A and B say is as it was
-pub record KeepsAlgorithms (old new : Mapped Cell) : Type 0 where
-  pub a : (p : Block) → (cell_at new p).a ≡ (cell_at old p).a
-  pub z : (p : Block) → (cell_at new p).z ≡ (cell_at old p).z
-
--- the cells have what the interfaces hear, and nothing else
-pub record AreHeard (rows : List Row) (cells : Mapped Cell) : Type 0 where
-  pub f : (p : Block) (i : ℕ) → InMask (cell_at cells p).f i ↔ Hears rows i p
-  pub a : (p : Block) → (cell_at cells p).a ≡ 0
-  pub z : (p : Block) → (cell_at cells p).z ≡ false
-  pub filled : IsFilled cells
+IsFilled cells = (p : Block) → ¬ (get cells p ≡ Some empty_cell)
 
 -- an origin that no row has
 abbrev pub no_reach : Reach
-no_reach = record { ifaces = 0; in_set_a = false }
+no_reach = record { ifaces = 0; own = 0; in_set_a = false }
 
 -- what is known of an origin
 abbrev pub reach_at : BTreeMap ℕ Reach → ℕ → Reach
@@ -108,9 +127,10 @@ reach_of origins (Some origin) = reach_at origins origin
 abbrev pub Admits : Reach → ℕ → ℕ → Type 0
 Admits reach customers i = IsTrue reach.in_set_a × InMask customers i × InMask reach.ifaces i
 
--- of each origin, which interfaces have a prefix of it, and whether it is in Set A
+-- of each origin, which interfaces have a prefix of it, which have a row of it, and whether it is in Set A
 pub record AreReaches (rows : List Row) (customers : ℕ) (origins : BTreeMap ℕ Reach) : Type 0 where
   pub ifaces : (a i : ℕ) → InMask (reach_at origins a).ifaces i ↔ Reaches rows a i
+  pub own : (a i : ℕ) → InMask (reach_at origins a).own i ↔ Owns rows a i
   pub in_set_a : (a : ℕ) → IsTrue (reach_at origins a).in_set_a ↔ InSetA rows customers a
 
 -- the cells have what the rows say
@@ -119,3 +139,22 @@ pub record AreCells (rows : List Row) (customers : ℕ) (cells : Mapped Cell) : 
   pub a : (p : Block) (i : ℕ) → InMask (cell_at cells p).a i ↔ InListA rows customers i p
   pub z : (p : Block) → IsTrue (cell_at cells p).z ↔ InSetZ rows customers p
   pub filled : IsFilled cells
+
+-- the pair is of the prefix, and by what is known of its AS the customer interface has a row of that
+abbrev pub GivesPrefix : BTreeMap ℕ Reach → ℕ → ℕ → Block → Pair → Type 0
+GivesPrefix origins customers i p pair =
+    (pair.0 ≡ p) × (InMask customers i × InMask (reach_at origins pair.1).own i)
+
+-- the pair is of the prefix, and by what is known of its AS that is in Set A
+abbrev pub GivesToSetZ : BTreeMap ℕ Reach → Block → Pair → Type 0
+GivesToSetZ origins p pair = (pair.0 ≡ p) × IsTrue (reach_at origins pair.1).in_set_a
+
+-- the new cells have besides what the pairs give by what is known of their ASes
+pub record HavePairsToo (pairs : List Pair) (origins : BTreeMap ℕ Reach) (customers : ℕ) (old new : Mapped Cell)
+    : Type 0 where
+  pub f : (p : Block) → (cell_at new p).f ≡ (cell_at old p).f
+  pub a : (p : Block) (i : ℕ) → InMask (cell_at new p).a i
+      ↔ (InMask (cell_at old p).a i ⊎ SomePair (GivesPrefix origins customers i p) pairs)
+  pub z : (p : Block) → IsTrue (cell_at new p).z
+      ↔ (IsTrue (cell_at old p).z ⊎ SomePair (GivesToSetZ origins p) pairs)
+  pub filled : IsFilled old → IsFilled new

@@ -1,25 +1,25 @@
 -- What the source sets are made of (RFC 8704, section 3).
-use Rattle.std.specs.Prelude.{ℕ, ◌==◌, Bool, true, false, IsSome, List, map, Option, Some, None, option_map, find}
+use Rattle.std.specs.Prelude.{ℕ, ◌==◌, Bool, true, false, IsSome, List, ◌∷◌, map, Option, Some, None, option_map, find}
 use Rattle.std.specs.Prelude.{if◌then◌else◌}
-use Rattle.urpf_base.specs.Address.{Block}
 use Rattle.urpf_base.specs.declared.kinds.Kind.{Kind}
 use Rattle.urpf_base.specs.declared.kinds.Role.{Role}
 use Rattle.urpf_base.specs.declared.kinds.Role.TheVariants.{Customer, Peer, Provider}
+use Rattle.origin_pairs.specs.Pairs.{Pair}
 use Rattle.rpf_plain.specs.declared.rows.Row.{Row}
 
 -- who is behind each interface: the interfaces that are configured, by their numbers
 abbrev pub Roles : Type 0
 Roles = List (ℕ × Role)
 
--- a prefix and an AS that a ROA or a route object names as its origin (RFC 8704, section 3.5)
-abbrev pub Pair : Type 0
-Pair = Block × ℕ
-
--- the rows of all Adj-RIBs-In, the roles of the interfaces, and the pairs, each once
+-- the rows of all Adj-RIBs-In, the roles of the interfaces, and the pairs (RFC 8704, section 3.5)
 pub record World : Type 0 where
   pub rows : List Row
   pub roles : Roles
   pub pairs : List Pair
+
+-- the world with one more pair
+abbrev pub with_pair : Pair → World → World
+with_pair pair w = record { rows = w.rows; roles = w.roles; pairs = pair ∷ w.pairs }
 
 -- the roles of the interfaces that are configured with these kinds
 abbrev pub roles_of : List (ℕ × Kind) → Roles

@@ -1,15 +1,15 @@
 //! What an engine of the source sets answers, however it keeps them.
-ghost use Rattle.std.specs.Prelude.{◌≡◌, ◌<◌, ◌^◌, IfOk, OnOk, OnErr, length};
+ghost use Rattle.std.specs.Prelude.{◌≡◌, ◌<◌, ◌^◌, IfOk, OnOk, OnErr, Ok, true, false, length};
 ghost use Rattle.urpf_base.specs.Lists.{Has};
 ghost use Rattle.rpf_plain.specs.Cells.{AreChanges, IsCell};
-ghost use Rattle.rpf_plain.specs.Engine.{AddsRow, EngineState, IsDrained, RemovesRow, SetsRole};
+ghost use Rattle.rpf_plain.specs.Engine.{AddsPair, AddsRow, EngineState, IsDrained, RemovesPair, RemovesRow, SetsRole};
 ghost use Rattle.rpf_plain.specs.Rows.{row_of};
 ghost use Rattle.rpf_plain.specs.World.{IsConfigured};
 
 use urpf_base::{Cell, Changes, IfaceId, Origin, OutOfMemory, Prefix, Role};
 
 /// An engine of the sets of feasible paths, of loose mode, and of Algorithms A and B (RFC 8704,
-/// sections 3.1.1 and 3.4). Where a call answers want of memory nothing is changed.
+/// sections 3.1.1 and 3.4, with the pairs of section 3.5). Where a call answers want of memory nothing is changed.
 pub trait SetEngine: Drop {
     /// The rows, the roles and the pairs of now, and the table of the cells at the last drain.
     ghost state: { Self → EngineState };
@@ -32,6 +32,21 @@ pub trait SetEngine: Drop {
         requires { IsConfigured (state self.old).world.roles iface }
         ensures ok { OnOk result (SetsRole iface role (state self.old) (state self.new)) }
         ensures err { OnErr result (state self.new ≡ state self.old) };
+
+    /// Adds a pair of a prefix and an AS that may originate it. Whether it is new.
+    fn add_pair(&mut self, prefix: Prefix, asn: u32) -> Result<bool, OutOfMemory>
+        requires { length (state self.old).world.pairs < 2 ^ 40 }
+        ensures added { result ≡ Ok true → AddsPair (prefix, asn) (state self.old) (state self.new) }
+        ensures there { result ≡ Ok false
+            → Has (state self.old).world.pairs (prefix, asn) × (state self.new ≡ state self.old) }
+        ensures err { OnErr result (state self.new ≡ state self.old) };
+
+    /// Takes a pair away. Whether it was there. It takes no memory.
+    fn remove_pair(&mut self, prefix: &Prefix, asn: u32) -> bool
+        ensures removed { result ≡ true
+            → RemovesPair (prefix.now, asn) (state self.old) (state self.new) }
+        ensures absent { result ≡ false
+            → (¬ Has (state self.old).world.pairs (prefix.now, asn)) × (state self.new ≡ state self.old) };
 
     /// The cell of a prefix now. It takes no memory.
     fn cell(&self, prefix: &Prefix) -> Cell

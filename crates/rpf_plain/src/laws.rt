@@ -16,7 +16,8 @@ ghost use Rattle.prefix_map.specs.Mapped.{Mapped};
 ghost use Rattle.rpf_plain.specs.Cells.{IsCell, IsDifference, IsTable};
 ghost use Rattle.rpf_plain.specs.Modes.{IsVerdict, Says, set_of};
 ghost use Rattle.rpf_plain.specs.Rows.{AreSameRows, repeats};
-ghost use Rattle.rpf_plain.specs.World.{IsConfigured, Pair, Roles, World, role_in, roles_of, with_role};
+ghost use Rattle.origin_pairs.specs.Pairs.{AreSamePairs, Pair};
+ghost use Rattle.rpf_plain.specs.World.{IsConfigured, Roles, World, role_in, roles_of, with_pair, with_role};
 ghost use Rattle.rpf_plain.specs.declared.rows.Row.{Row};
 
 use router_config::Edit;
@@ -39,28 +40,40 @@ pub fn role_laws()
         → roles_of (edited (Edit.Role iface role) kinds) ≡ with_role iface role (roles_of kinds) }
     ensures mode { (kinds : List (ℕ × Kind)) (iface : ℕ) (mode : Mode)
         → roles_of (edited (Edit.Mode iface mode) kinds) ≡ roles_of kinds }
+    ensures pair { (kinds : List (ℕ × Kind)) (prefix : Block) (asn : ℕ)
+        → (roles_of (edited (Edit.PairAdd prefix asn) kinds) ≡ roles_of kinds)
+        × (roles_of (edited (Edit.PairDel prefix asn) kinds) ≡ roles_of kinds) }
     ensures kept { (roles : Roles) (iface : ℕ) (role : Role) (i : ℕ)
         → IsConfigured (with_role iface role roles) i ↔ IsConfigured roles i }
 {}
 
-/// That a world has one cell for a prefix, which depends on which rows there are and not on their
-/// order or on how often they are there, and that a prefix is in the set of an interface just where
+/// That a world has one cell for a prefix, which depends on which rows and pairs there are and not
+/// on their order or on how often they are there, and that a prefix is in the set of an interface just where
 /// its cell says so by the mode of the interface.
 pub fn cell_laws()
     ensures some { (w : World) (p : Block) → (c : Cell) × IsCell w p c }
     ensures one { (w : World) (p : Block) (c d : Cell) → IsCell w p c → IsCell w p d → c ≡ d }
     ensures members { (v w : World) → ((row : Row) → Has v.rows row ↔ Has w.rows row)
-        → v.roles ≡ w.roles → v.pairs ≡ w.pairs
+        → v.roles ≡ w.roles → AreSamePairs v.pairs w.pairs
         → (p : Block) (c : Cell) → IsCell v p c → IsCell w p c }
-    ensures order { (v w : World) → AreSameRows v.rows w.rows → v.roles ≡ w.roles → v.pairs ≡ w.pairs
+    ensures order { (v w : World) → AreSameRows v.rows w.rows → v.roles ≡ w.roles
+        → AreSamePairs v.pairs w.pairs
         → (p : Block) (c : Cell) → IsCell v p c → IsCell w p c }
     ensures says { (w : World) (p : Block) (c : Cell) (i : ℕ) (kind : Kind) → IsCell w p c
         → role_in w.roles i ≡ Some kind.role
         → Has (set_of kind w i) p ↔ Says (mode_for kind.role kind.mode) i p c }
 {}
 
-/// That there is one verdict on each source, which depends on which rows there are and not on their
-/// order or on how often they are there.
+/// That a pair whose AS is the origin of no row changes no cell. AS 0 is such a one in a router: no
+/// route has it as its origin (RFC 7607, section 2).
+pub fn unheard_pair()
+    ensures { (w : World) (prefix : Block) (asn : ℕ)
+        → ((row : Row) → Has w.rows row → ¬ (row.origin ≡ Some asn))
+        → (p : Block) (c : Cell) → IsCell (with_pair (prefix, asn) w) p c ↔ IsCell w p c }
+{}
+
+/// That there is one verdict on each source, which depends on which rows and pairs there are and
+/// not on their order or on how often they are there.
 pub fn verdict_laws()
     ensures some { (kinds : List (ℕ × Kind)) (rows : List Row) (pairs : List Pair) (iface : ℕ)
         (source : Option Addr)
@@ -71,9 +84,10 @@ pub fn verdict_laws()
         → a ≡ b }
     ensures members { (kinds : List (ℕ × Kind)) (rows others : List Row)
         → ((row : Row) → Has rows row ↔ Has others row)
-        → (pairs : List Pair) (iface : ℕ) (source : Option Addr) (answer : Verdict)
+        → (pairs like : List Pair) → AreSamePairs pairs like
+        → (iface : ℕ) (source : Option Addr) (answer : Verdict)
         → IsVerdict kinds rows pairs iface source answer
-        → IsVerdict kinds others pairs iface source answer }
+        → IsVerdict kinds others like iface source answer }
 {}
 
 /// That a world has one table of its cells, and that it is the empty one where there are no rows.

@@ -1,28 +1,47 @@
 //! The cell of one prefix, looked up in the rows again and again, without memory.
-ghost use Rattle.std.specs.Prelude.{◌↔◌, ◌⊎◌, ℕ, IsTrue, []};
+ghost use Rattle.std.specs.Prelude.{◌↔◌, ◌⊎◌, ℕ, IsTrue};
 ghost use Rattle.urpf_base.specs.Masks.{InMask};
 ghost use Rattle.rpf_plain.specs.Cells.{IsCell};
 ghost use Rattle.rpf_plain.specs.Kept.{all_rows, each_row};
-ghost use Rattle.rpf_plain.specs.Walks.{Hears, InListA, InSetA, InSetZ, IsAdmitted, IsCustomers, IsForSetZ};
-ghost use Rattle.rpf_plain.specs.Walks.{IsHeard, IsListed, IsOfReached, IsReached, Reaches};
+ghost use Rattle.rpf_plain.specs.Walks.{Hears, InListA, InListWithPairs, InSetA, InSetZ, InSetZWithPairs};
+ghost use Rattle.rpf_plain.specs.Walks.{IsAdmitted, IsCustomers, IsForSetZ, IsHeard, IsListed, IsOfReached};
+ghost use Rattle.rpf_plain.specs.Walks.{IsReached, Reaches};
 ghost use Rattle.rpf_plain.specs.World.{world_for};
 
-use crate::customers::{common, customers_of};
+use crate::by_pairs::{in_set_z_by_pairs, listing_by_pairs};
+use crate::customers::customers_of;
 use crate::row_map::RowMap;
 use crate::rows::Row;
+use origin_pairs::PairSet;
 use router_config::Kinds;
 use urpf_base::{Cell, Mask, Prefix};
 
 /// The cell of the prefix.
-pub fn cell_now(rows: &RowMap, kinds: &Kinds, prefix: &Prefix) -> Cell
-    ensures { IsCell (world_for kinds.now (all_rows rows.now) []) prefix.now result }
+pub fn cell_now(rows: &RowMap, pairs: &PairSet, kinds: &Kinds, prefix: &Prefix) -> Cell
+    ensures { IsCell (world_for kinds.now (all_rows rows.now) pairs.now) prefix.now result }
 {
     let customers = customers_of(kinds);
     Cell {
         f: hearing(rows, prefix),
-        a: listing(rows, customers, prefix),
-        z: in_set_z(rows, customers, prefix),
+        a: listed(rows, pairs, customers, prefix),
+        z: is_in_set_z(rows, pairs, customers, prefix),
     }
+}
+
+/// The customer interfaces whose list by Algorithm A has the prefix, by a row or by a pair.
+fn listed(rows: &RowMap, pairs: &PairSet, customers: Mask, prefix: &Prefix) -> Mask
+    ensures { (i : ℕ) → (InMask result i
+        ↔ InListWithPairs (each_row rows.now) pairs.now customers i prefix.now) }
+{
+    let by_rows = listing(rows, customers, prefix);
+    by_rows.union(listing_by_pairs(rows, pairs, customers, prefix))
+}
+
+/// Whether Set Z has the prefix, by a row or by a pair.
+fn is_in_set_z(rows: &RowMap, pairs: &PairSet, customers: Mask, prefix: &Prefix) -> bool
+    ensures { IsTrue result ↔ InSetZWithPairs (each_row rows.now) pairs.now customers prefix.now }
+{
+    in_set_z(rows, customers, prefix) || in_set_z_by_pairs(rows, pairs, customers, prefix)
 }
 
 /// The interfaces that have the prefix.
@@ -37,7 +56,7 @@ fn hearing(rows: &RowMap, prefix: &Prefix) -> Mask
 }
 
 /// The set, and the interface of the row where that is of the prefix.
-fn with_heard(ifaces: Mask, row: Row, prefix: &Prefix) -> Mask
+pub fn with_heard(ifaces: Mask, row: Row, prefix: &Prefix) -> Mask
     ensures { (i : ℕ) → (InMask result i ↔ (InMask ifaces i ⊎ IsHeard i prefix.now row)) }
 {
     if row.is_of(prefix) {
@@ -47,7 +66,7 @@ fn with_heard(ifaces: Mask, row: Row, prefix: &Prefix) -> Mask
 }
 
 /// Whether a customer interface has a row of the origin.
-fn in_set_a(rows: &RowMap, customers: Mask, origin: u32) -> bool
+pub fn in_set_a(rows: &RowMap, customers: Mask, origin: u32) -> bool
     ensures { IsTrue result ↔ InSetA (each_row rows.now) customers origin }
 {
     for row in rows.rows() {
@@ -96,7 +115,7 @@ fn admitting(rows: &RowMap, customers: Mask, row: Row) -> Mask
     if !in_set_a(rows, customers, origin) {
         return Mask::empty();
     }
-    common(customers, reaching(rows, origin))
+    customers.intersection(reaching(rows, origin))
 }
 
 /// The customer interfaces whose list by Algorithm A has the prefix.

@@ -1,4 +1,5 @@
-//! The engine that keeps rows in an ordered map, and computes the sets anew in each drain.
+//! The engine that keeps rows in an ordered map and pairs in an ordered set, and computes the sets
+//! anew in each drain.
 ghost use Rattle.std.specs.Prelude.{◌≡◌, IfOk};
 ghost use Rattle.rpf_plain.specs.Engine.{new_engine};
 ghost use Rattle.rpf_plain.specs.World.{roles_of};
@@ -9,23 +10,24 @@ use crate::one_cell::cell_now;
 use crate::row_map::RowMap;
 use crate::rows::Row;
 use crate::table::table_of;
+use origin_pairs::PairSet;
 use prefix_map::PrefixMap;
 use router_config::{Edit, Kinds};
 use std::alloc::Global;
 use std::marker::Model;
 use urpf_base::{Cell, Changes, IfaceId, Origin, OutOfMemory, Prefix, Role};
 
-/// An engine of the source sets that computes them anew from its rows.
+/// An engine of the source sets that computes them anew from its rows and pairs.
 #[derive(Drop)]
 pub struct PlainEngine {
     alloc: Global,
     rows: RowMap,
+    pairs: PairSet,
     kinds: Kinds,
     base: PrefixMap<Cell>,
 }
 
 impl Model for PlainEngine {
-    ghost use Rattle.std.specs.Prelude.{[]};
     ghost use Rattle.rpf_plain.specs.Engine.{EngineState};
     ghost use Rattle.rpf_plain.specs.Kept.{all_rows, engine_code};
     ghost use Rattle.rpf_plain.specs.World.{world_for};
@@ -34,7 +36,7 @@ impl Model for PlainEngine {
 
     ghost coded = { engine_code };
 
-    ghost view = { λ e. record { world = world_for e.kinds (all_rows e.rows) []; base = e.base } };
+    ghost view = { λ e. record { world = world_for e.kinds (all_rows e.rows) e.pairs; base = e.base } };
 }
 
 impl PlainEngine {
@@ -46,6 +48,7 @@ impl PlainEngine {
         Ok(PlainEngine {
             alloc,
             rows: RowMap::new(alloc),
+            pairs: PairSet::new(alloc),
             kinds,
             base: PrefixMap::new(alloc),
         })
@@ -81,12 +84,20 @@ impl SetEngine for PlainEngine {
         Ok(())
     }
 
+    fn add_pair(&mut self, prefix: Prefix, asn: u32) -> Result<bool, OutOfMemory> {
+        self.pairs.add(&prefix, asn)
+    }
+
+    fn remove_pair(&mut self, prefix: &Prefix, asn: u32) -> bool {
+        self.pairs.remove(prefix, asn)
+    }
+
     fn cell(&self, prefix: &Prefix) -> Cell {
-        cell_now(&self.rows, &self.kinds, prefix)
+        cell_now(&self.rows, &self.pairs, &self.kinds, prefix)
     }
 
     fn drain_changes(&mut self) -> Result<Changes, OutOfMemory> {
-        let cells = table_of(self.alloc, &self.rows, &self.kinds)?;
+        let cells = table_of(self.alloc, &self.rows, &self.pairs, &self.kinds)?;
         let changes = differences(self.alloc, &self.base, &cells)?;
         self.base = cells;
         Ok(changes)

@@ -1,4 +1,4 @@
-//! Drawn rows: what each drain answers, and what the engine says of each prefix, is what a slow
+//! Drawn rows and pairs: what each drain answers, and what the engine says of each prefix, is what a slow
 //! program says.
 ghost use Rattle.std.specs.Prelude.{◌<◌};
 
@@ -9,8 +9,11 @@ use rpf_plain::{Row, SetEngine};
 use std::process::Abort;
 use urpf_base::{Addr, Cell, IfaceId, Mask, Prefix, Role};
 
-/// How many lists of rows are drawn.
+/// How many lists of rows and pairs are drawn.
 const LISTS: u32 = 2000;
+
+/// How many pairs a list has at most.
+const PAIRS: usize = 10;
 
 /// Numbers that are drawn, the same in each run.
 #[derive(Drop)]
@@ -68,9 +71,39 @@ fn role(number: u32) -> Role {
     }
 }
 
-/// Adds or takes rows, and now and then changes a role.
+/// Whether the pair was added and not taken away since.
+fn is_listed(fed: &Fed, prefix: &Prefix, asn: u32) -> bool {
+    for pair in &fed.pairs {
+        if pair.0 == *prefix && pair.1 == asn {
+            return true;
+        }
+    }
+    false
+}
+
+/// Adds or takes a pair of one of six prefixes and six ASes, of which AS 0 and another are the
+/// origin of no row.
+fn edit_pair(rt: &impl Abort, fed: &mut Fed, draw: &mut Draw) {
+    let prefix = prefix(rt, draw.below(6));
+    let asn = match draw.below(6) {
+        0 => 0,
+        other => 64496 + other,
+    };
+    let there = is_listed(fed, &prefix, asn);
+    if fed.pairs.len() < PAIRS && draw.below(3) > 0 {
+        let new = fed.add_pair(prefix, asn).expect(rt, "memory");
+        assert!(rt; new != there);
+    } else {
+        assert!(rt; fed.remove_pair(&prefix, asn) == there);
+    }
+}
+
+/// Adds or takes rows and pairs, and now and then changes a role.
 fn edit(rt: &impl Abort, fed: &mut Fed, draw: &mut Draw) {
-    let kind = draw.below(8);
+    let kind = draw.below(10);
+    if kind > 7 {
+        return edit_pair(rt, fed, draw);
+    }
     if kind == 0 {
         let iface = IfaceId::new(draw.below(4) as u16).expect(rt, "an interface");
         fed.set_role(iface, role(draw.below(3)))
@@ -107,7 +140,7 @@ fn same(rt: &impl Abort, found: &Cell, wanted: &Cell) {
 fn compare(rt: &impl Abort, fed: &Fed, table: &PrefixMap<Cell>, asked: u32) {
     for number in 0..6 {
         let prefix = prefix(rt, number);
-        let cell = slow_cell(&fed.rows, &fed.kinds, &prefix);
+        let cell = slow_cell(&fed.rows, &fed.pairs, &fed.kinds, &prefix);
         same(rt, &table.get(&prefix).unwrap_or(empty_cell()), &cell);
         if number == asked {
             same(rt, &fed.engine.cell(&prefix), &cell);

@@ -23,7 +23,7 @@ fn same(rt: &impl Abort, fed: &Fed) {
         let prefix = row(rt, number).prefix;
         assert_eq!(rt;
             fed.engine.cell(&prefix),
-            slow_cell(&fed.rows, &fed.kinds, &prefix)
+            slow_cell(&fed.rows, &fed.pairs, &fed.kinds, &prefix)
         );
     }
 }
@@ -32,6 +32,16 @@ fn add(rt: &impl Abort, fed: &mut Fed, number: u32) {
     if fed.add(&row(rt, number)).is_err() {
         same(rt, fed);
         fed.add(&row(rt, number))
+            .expect(rt, "memory is there again");
+    }
+}
+
+/// Adds a pair of the prefix of a row.
+fn add_pair(rt: &impl Abort, fed: &mut Fed, number: u32, asn: u32) {
+    let prefix = row(rt, number).prefix;
+    if fed.add_pair(prefix, asn).is_err() {
+        same(rt, fed);
+        fed.add_pair(prefix, asn)
             .expect(rt, "memory is there again");
     }
 }
@@ -57,9 +67,15 @@ fn a_refused_call_changes_nothing(rt: HostRuntime) {
     }
     assert_eq!(rt; drain(&rt, &mut fed), 30);
     assert_eq!(rt; drain(&rt, &mut fed), 0);
+    for number in 0..20 {
+        add_pair(&rt, &mut fed, number * 2, 64496 + number % 7);
+    }
+    // Four of the five prefixes that have no row have a pair of an AS that all interfaces have.
+    assert_eq!(rt; drain(&rt, &mut fed), 4);
+    same(&rt, &fed);
     let provider = IfaceId::new(3).expect(&rt, "an interface");
     fed.set_role(provider, Role::Customer)
         .expect(&rt, "it takes no memory");
-    assert_eq!(rt; drain(&rt, &mut fed), 30);
+    assert_eq!(rt; drain(&rt, &mut fed), 34);
     same(&rt, &fed);
 }

@@ -83,29 +83,77 @@ fn in_set_z(rows: &[Row], customers: Mask, prefix: &Prefix) -> bool {
     false
 }
 
-/// The cell with what the sets of one interface say.
-fn with_iface(cell: Cell, rows: &[Row], customers: Mask, iface: IfaceId, prefix: &Prefix) -> Cell {
-    let mut f = cell.f;
-    let mut a = cell.a;
-    if is_feasible(rows, iface, prefix) {
-        f = f.with(iface);
+/// Whether the interface has a row of the origin.
+fn is_origin_on(rows: &[Row], iface: IfaceId, origin: u32) -> bool {
+    for row in rows {
+        if row.iface == iface && row.origin == Some(origin) {
+            return true;
+        }
     }
-    if customers.has(iface) && in_list_a(rows, customers, iface, prefix) {
-        a = a.with(iface);
+    false
+}
+
+/// Whether a pair has the prefix, and its AS is the origin of a row of the interface.
+fn is_paired(rows: &[Row], pairs: &[(Prefix, u32)], iface: IfaceId, prefix: &Prefix) -> bool {
+    for pair in pairs {
+        if pair.0 == *prefix && is_origin_on(rows, iface, pair.1) {
+            return true;
+        }
     }
-    Cell { f, a, z: cell.z }
+    false
+}
+
+/// Whether a pair has the prefix, and its AS is in Set A.
+fn is_paired_in_z(rows: &[Row], pairs: &[(Prefix, u32)], customers: Mask, prefix: &Prefix) -> bool {
+    for pair in pairs {
+        if pair.0 == *prefix && in_set_a(rows, customers, pair.1) {
+            return true;
+        }
+    }
+    false
+}
+
+/// Whether the prefix is in the list of the interface by Algorithm A, by the rows or by the pairs.
+fn is_in_list(
+    rows: &[Row],
+    pairs: &[(Prefix, u32)],
+    customers: Mask,
+    iface: IfaceId,
+    prefix: &Prefix,
+) -> bool {
+    in_list_a(rows, customers, iface, prefix) || is_paired(rows, pairs, iface, prefix)
+}
+
+/// The interfaces that have the prefix.
+fn feasible_on(rows: &[Row], kinds: &Kinds, prefix: &Prefix) -> Mask {
+    let mut ifaces = Mask::empty();
+    for item in kinds.items() {
+        if is_feasible(rows, item.0, prefix) {
+            ifaces = ifaces.with(item.0);
+        }
+    }
+    ifaces
+}
+
+/// The customer interfaces whose list by Algorithm A has the prefix.
+fn listed_on(rows: &[Row], pairs: &[(Prefix, u32)], kinds: &Kinds, prefix: &Prefix) -> Mask {
+    let customers = customers_of(kinds);
+    let mut ifaces = Mask::empty();
+    for item in kinds.items() {
+        if customers.has(item.0) && is_in_list(rows, pairs, customers, item.0, prefix) {
+            ifaces = ifaces.with(item.0);
+        }
+    }
+    ifaces
 }
 
 /// The cell of a prefix.
-pub fn slow_cell(rows: &[Row], kinds: &Kinds, prefix: &Prefix) -> Cell {
+pub fn slow_cell(rows: &[Row], pairs: &[(Prefix, u32)], kinds: &Kinds, prefix: &Prefix) -> Cell {
     let customers = customers_of(kinds);
-    let mut cell = Cell {
-        f: Mask::empty(),
-        a: Mask::empty(),
-        z: in_set_z(rows, customers, prefix),
-    };
-    for item in kinds.items() {
-        cell = with_iface(cell, rows, customers, item.0, prefix);
+    let by_rows = in_set_z(rows, customers, prefix);
+    Cell {
+        f: feasible_on(rows, kinds, prefix),
+        a: listed_on(rows, pairs, kinds, prefix),
+        z: by_rows || is_paired_in_z(rows, pairs, customers, prefix),
     }
-    cell
 }

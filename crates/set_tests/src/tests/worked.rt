@@ -6,27 +6,27 @@ use std::process::Abort;
 use urpf_base::{Addr, Cell, CellChange, IfaceId, Mask, Prefix, Role};
 
 /// 198.51.100.0, 203.0.113.0 and 192.0.2.0, of the addresses for documentation (RFC 5737).
-const TEST_NET_2: u32 = 0xC633_6400;
+pub const TEST_NET_2: u32 = 0xC633_6400;
 
-const TEST_NET_3: u32 = 0xCB00_7100;
+pub const TEST_NET_3: u32 = 0xCB00_7100;
 
-const TEST_NET_1: u32 = 0xC000_0200;
+pub const TEST_NET_1: u32 = 0xC000_0200;
 
 /// A row: interface, prefix of IPv4 with its length, and origin.
-type Given = (u16, u32, u8, Option<u32>);
+pub type Given = (u16, u32, u8, Option<u32>);
 
 /// A change: prefix of IPv4 with its length, `f`, `a` and `z` of its cell.
-type Change = (u32, u8, &'static [u16], &'static [u16], bool);
+pub type Change = (u32, u8, &'static [u16], &'static [u16], bool);
 
-fn iface(rt: &impl Abort, number: u16) -> IfaceId {
+pub fn iface(rt: &impl Abort, number: u16) -> IfaceId {
     IfaceId::new(number).expect(rt, "an interface")
 }
 
-fn prefix(rt: &impl Abort, number: u32, len: u8) -> Prefix {
+pub fn prefix(rt: &impl Abort, number: u32, len: u8) -> Prefix {
     Prefix::new(Addr::V4(number), len).expect(rt, "a prefix")
 }
 
-fn mask(rt: &impl Abort, numbers: &[u16]) -> Mask {
+pub fn mask(rt: &impl Abort, numbers: &[u16]) -> Mask {
     let mut mask = Mask::empty();
     for number in numbers {
         mask = mask.with(iface(rt, *number));
@@ -46,7 +46,7 @@ fn change(rt: &impl Abort, given: &Change) -> CellChange {
     }
 }
 
-fn add_all(rt: &impl Abort, fed: &mut Fed, rows: &[Given]) {
+pub fn add_all(rt: &impl Abort, fed: &mut Fed, rows: &[Given]) {
     for row in rows {
         let row = Row {
             prefix: prefix(rt, row.1, row.2),
@@ -58,7 +58,7 @@ fn add_all(rt: &impl Abort, fed: &mut Fed, rows: &[Given]) {
 }
 
 /// Drains, and compares the changes with those that are wanted.
-fn drains(rt: &impl Abort, fed: &mut Fed, wanted: &[Change]) {
+pub fn drains(rt: &impl Abort, fed: &mut Fed, wanted: &[Change]) {
     let changes = fed.engine.drain_changes().expect(rt, "memory");
     assert_eq!(rt; changes.items().len(), wanted.len());
     for (change_now, given) in changes.items().iter().zip(wanted) {

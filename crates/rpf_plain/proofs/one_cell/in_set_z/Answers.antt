@@ -9,7 +9,7 @@ pub loop-row-init : goal.loop-row-init
 loop-row-init c =
     let all = each_row c.args.rows.now in
     let Is : Row → Type 0 = IsForSetZ all c.args.customers c.args.prefix.now in
-    let start = c.into_iter-row-iterator.ensures.into_iter_gives ∙ c.rows-row-items.ensures in
+    let start = c.into_iter-row-iterator.ensures.into_iter_gives ∙ c.rows-row-items.ensures.list in
     subst (λ rows. SomeRow Is rows ↔ SomeRow Is all) (sym start) (λ h. h, λ h. h)
 
 pub loop-row-preserved : goal.loop-row-preserved

@@ -10,7 +10,7 @@ pub loop-row-init : goal.loop-row-init
 loop-row-init c i =
     let all = each_row c.args.rows.now in
     let Is : Row → Type 0 = IsReached all c.args.origin i in
-    let start = c.into_iter-row-iterator.ensures.into_iter_gives ∙ c.rows-row-items.ensures in
+    let start = c.into_iter-row-iterator.ensures.into_iter_gives ∙ c.rows-row-items.ensures.list in
     subst (λ rows. (InMask c.empty-ifaces.result i ⊎ SomeRow Is rows) ↔ SomeRow Is all) (sym start)
     (begun (λ h. no_member i (subst (λ m. InMask m i) c.empty-ifaces.ensures h)))
 

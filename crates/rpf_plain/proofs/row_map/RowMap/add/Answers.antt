@@ -1,25 +1,39 @@
-use Rattle.std.proofs.Common.{ap, subst, ◌∙◌, arith, length, ◌∷◌}
-use Rattle.std.specs.Ordering.{is_eq}
-use Rattle.rpf_plain.specs.Kept.{all_rows, how_often}
-use Rattle.rpf_plain.specs.Rows.{AreSameRows}
-use Rattle.rpf_plain.proofs.Orders.{own_order}
-use Rattle.rpf_plain.proofs.Repeats.{adds, few, in_order}
+use Rattle.std.proofs.Common.{ap, sym, ◌∙◌}
+use Rattle.std.specs.FinMap.{put}
+use Rattle.prefix_map.proofs.Outcomes.{on_ok}
+use Rattle.rpf_plain.specs.Kept.{how_often}
+use Rattle.rpf_plain.specs.Rows.{row_order}
+use Rattle.rpf_plain.proofs.Repeats.{adds}
+use Rattle.rpf_plain.proofs.RowKeys.{ascending, ascends, found_long, found_short, left_long, left_short, puts_long}
+use Rattle.rpf_plain.proofs.RowKeys.{puts_short}
 use Rattle.rpf_plain.proofs.row_map.RowMap.add.Goals as goal
 
-pub once_more-more-requires : goal.once_more-more-requires
-once_more-more-requires c =
-    let found = ap how_often (c.copied.ensures ∙ c.get.ensures.value) in
-    let view = ap (λ es. length (all_rows es)) c.self.view_is in
-    let most = few (λ k. is_eq (own_order c.args.row k)) c.self.inside.more.entries in
-    omega arith
-
 pub invariant_of-self : goal.invariant_of-self
-invariant_of-self c = in_order c.insert.new.self.entries c.insert.ensures.ordered
+invariant_of-self c =
+    left_short c.add_once.result c.add_once.new.rows.entries c.self.invariant c.add_once.ensures.ordered
+    c.add_once.ensures.err
 
-pub returns-clause-ok : goal.returns-clause-ok
-returns-clause-ok c =
-    let new = c.insert.new.self.entries in
-    subst (λ es. AreSameRows (all_rows new) (c.args.row ∷ all_rows es)) c.self.view_is
-    (adds c.args.row c.once_more-more.result c.self.inside.more.entries new c.self.invariant
-    (in_order new c.insert.ensures.ordered) c.in-Ok.ensures.updates.0
-    (c.once_more-more.ensures ∙ ap how_often (c.copied.ensures ∙ c.get.ensures.value)))
+pub invariant_of-self-in-Long : goal.invariant_of-self-in-Long
+invariant_of-self-in-Long c =
+    let call = c.add_once-in-Long in
+    left_long call.result call.new.rows.entries c.self.invariant call.ensures.ordered call.ensures.err
+
+pub returns-in-Short-clause-ok : goal.returns-in-Short-clause-ok
+returns-in-Short-clause-ok c =
+    let key = c.in-Short.key in
+    on_ok c.add_once.result c.add_once.ensures.ok (λ is.
+    adds c.args.row c.args.self.now _ (ascends c.self.invariant c.self.view_is)
+    (ascending _ _ (invariant_of-self c))
+    (puts_short key _ c.self.invariant c.self.view_is c.in-Short.ensures is
+    ∙ ap (λ o. put row_order c.args.row (how_often o) c.args.self.now)
+    (sym (found_short key c.self.invariant c.self.view_is c.in-Short.ensures))))
+
+pub returns-in-Long-clause-ok : goal.returns-in-Long-clause-ok
+returns-in-Long-clause-ok c =
+    let key = c.in-Long.key in
+    on_ok c.add_once-in-Long.result c.add_once-in-Long.ensures.ok (λ is.
+    adds c.args.row c.args.self.now _ (ascends c.self.invariant c.self.view_is)
+    (ascending _ _ (invariant_of-self-in-Long c))
+    (puts_long key _ c.self.invariant c.self.view_is c.in-Long.ensures is
+    ∙ ap (λ o. put row_order c.args.row (how_often o) c.args.self.now)
+    (sym (found_long key c.self.invariant c.self.view_is c.in-Long.ensures))))

@@ -1,4 +1,4 @@
-use Rattle.std.proofs.Common.{◌≡◌, ◌++◌, ◌∷◌, [], ap, not, sym, subst, ◌∙◌, arith, rules}
+use Rattle.std.proofs.Common.{◌≡◌, ◌++◌, ◌∷◌, [], ap, length, not, sym, subst, ◌∙◌, arith, rules}
 use Rattle.rpf_plain.specs.Engine.{AddsRow}
 use Rattle.std.specs.Option.{IsSome}
 use Rattle.rpf_plain.specs.World.{IsConfigured}
@@ -22,5 +22,6 @@ invariant_of-self-in-Ok-add_row c =
     record {
       same = added c.args.self.now.engine.world.rows c.add_row.new.self.world.rows c.args.self.now.rows.items
           c.push.new.self.items row c.args.self.now.same adds.rows pushed;
+      few = let same = ap length adds.pairs in omega arith;
       roles = adds.roles ∙ c.args.self.now.roles;
     }

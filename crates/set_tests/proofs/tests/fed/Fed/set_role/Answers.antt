@@ -1,4 +1,4 @@
-use Rattle.std.proofs.Common.{◌≡◌, ap, not, sym, subst, ◌∙◌}
+use Rattle.std.proofs.Common.{◌≡◌, ap, arith, length, not, sym, subst, ◌∙◌}
 use Rattle.std.specs.Option.{IsSome}
 use Rattle.rpf_plain.specs.Rows.{repeats}
 use Rattle.rpf_plain.specs.World.{IsConfigured, roles_of, with_role}
@@ -14,6 +14,7 @@ set_role-requires c =
 pub invariant_of-self-2 : goal.invariant_of-self-2
 invariant_of-self-2 c = record {
   same = λ row. ap (λ rows. repeats rows row) c.in_ok-set_role.ensures.ok.rows ∙ c.args.self.now.same row;
+  few = let same = ap length c.in_ok-set_role.ensures.ok.pairs in omega arith;
   roles = c.in_ok-set_role.ensures.ok.roles ∙ ap (with_role c.args.iface c.args.role) c.args.self.now.roles
       ∙ sym (ap roles_of c.apply.ensures ∙ roles_edited c.args.iface c.args.role c.args.self.now.kinds);
 }

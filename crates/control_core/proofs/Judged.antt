@@ -15,8 +15,7 @@ use Rattle.rpf_plain.specs.World.{World, role_in, roles_of, world_for}
 use Rattle.control_core.specs.Controls.{ControlStandsFor, IsVerdictNow}
 use Rattle.control_core.specs.Judging.{JudgesBy, JudgesFor, SomeSays}
 use Rattle.control_core.specs.States.{ControlState, Published}
-use Rattle.control_core.specs.Worlds.{Course}
-use Rattle.router_config.specs.Settings.{Settings}
+use Rattle.control_core.specs.Worlds.{Course, Opening}
 use Rattle.router_config.specs.declared.edits.Edit.{Edit}
 
 -- the role of an interface is that of its kind
@@ -44,7 +43,7 @@ module _ (published : Published) (w : World) (iface : ℕ) (addr : Addr)
   verdict_for (Some kind) BadHead role judges = judges
   verdict_for (Some kind) NoIface role judges = judges
 
-pub verdict_now : (opening : Settings) (edits : List Edit) (courses : List Course) (control : ControlState) (iface : ℕ)
+pub verdict_now : (opening : Opening) (edits : List Edit) (courses : List Course) (control : ControlState) (iface : ℕ)
     (addr : Addr) (answer : Verdict) → (stands : ControlStandsFor opening edits courses control)
     → JudgesBy control.published iface addr answer → IsVerdictNow control stands.marked iface addr answer
 verdict_now opening edits courses control iface addr answer stands judges =

@@ -12,6 +12,7 @@ pub mod Many
 pub mod NowWorld
 pub mod OctetCounts
 pub mod Opened
+pub mod PairEdits
 pub mod Places
 pub mod Publications
 pub mod PullEnds

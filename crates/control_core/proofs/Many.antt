@@ -4,7 +4,9 @@ use Rattle.std.proofs.Common.{refl, sym, ap, subst, ◌∙◌, arith}
 use Rattle.std.specs.Prelude.{slice_get, slice_set}
 use Rattle.std.specs.List.{AllByRecursion}
 use Rattle.std.proofs.lemmas.List.{take-append-le}
+use Rattle.urpf_base.specs.Lists.{AreDistinct}
 use Rattle.urpf_base.specs.declared.kinds.Kind.{Kind}
+use Rattle.origin_pairs.specs.Pairs.{Pair}
 use Rattle.feed_io.specs.Events.{Event}
 use Rattle.rpf_plain.specs.Engine.{EngineState}
 use Rattle.rpf_plain.specs.Rows.{repeats}
@@ -189,7 +191,7 @@ kept_set peers kinds old new limits s peer later kept there config number follow
     record {
       rows = λ row. omega (arith, kept.rows row, follows.rows row, all_set peers s peer later row there config);
       roles = roles ∙ kept.roles;
-      pairs = follows.others.pairs ∙ kept.pairs;
+      pairs = subst (λ (ps : List Pair). AreDistinct ps) (sym follows.others.pairs) kept.pairs;
       configured =
           subst
           (λ (rs : Roles). AllByRecursion (λ p. IsConfigured rs p.session.config.iface) (slice_set peers s later))

@@ -22,18 +22,18 @@ use Rattle.control_core.specs.Worlds.{Course, IsRowOf, IsRowOfAny}
 use Rattle.control_core.specs.declared.limits.Limits.{Limits}
 use Rattle.control_core.proofs.RowCounts.{row_there}
 
-has_either : {X : Type 0} (xs ys : List X) (x : X) → Has (xs ++ ys) x → Has xs x ⊎ Has ys x
+pub has_either : {X : Type 0} (xs ys : List X) (x : X) → Has (xs ++ ys) x → Has xs x ⊎ Has ys x
 has_either [] ys x has = inr has
 has_either (z ∷ xs) ys x (inl same) = inl (inl same)
 has_either (z ∷ xs) ys x (inr later) =
     elim (has_either xs ys x later) [ inl here ↦ inl (inr here) | inr there ↦ inr there ]
 
-has_left : {X : Type 0} (xs ys : List X) (x : X) → Has xs x → Has (xs ++ ys) x
+pub has_left : {X : Type 0} (xs ys : List X) (x : X) → Has xs x → Has (xs ++ ys) x
 has_left [] ys x never = absurd never
 has_left (z ∷ xs) ys x (inl same) = inl same
 has_left (z ∷ xs) ys x (inr later) = inr (has_left xs ys x later)
 
-has_right : {X : Type 0} (xs ys : List X) (x : X) → Has ys x → Has (xs ++ ys) x
+pub has_right : {X : Type 0} (xs ys : List X) (x : X) → Has ys x → Has (xs ++ ys) x
 has_right [] ys x has = has
 has_right (z ∷ xs) ys x has = inr (has_right xs ys x has)
 

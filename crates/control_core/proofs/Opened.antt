@@ -1,35 +1,39 @@
 -- A control at its opening.
-use Rattle.std.proofs.Common.{◌≡◌, ℕ, zero, suc, ◌+◌, ◌≤◌, false, List, [], ◌∷◌, ◌++◌, length, map, take, Option, Some}
-use Rattle.std.proofs.Common.{refl, sym, ap, subst, ◌∙◌, arith, inl, inr, unwrap_or, add-one}
-use Rattle.std.specs.Prelude.{slice_get}
+use Rattle.std.proofs.Common.{◌≡◌, ℕ, zero, suc, ◌+◌, ◌≤◌, false, List, [], ◌∷◌, ◌++◌, length, map, take, Option}
+use Rattle.std.proofs.Common.{refl, sym, ap, subst, ◌∙◌, arith, inl, inr, add-one}
 use Rattle.std.specs.FinMap.{empty}
 use Rattle.std.specs.List.{AllByRecursion}
 use Rattle.urpf_base.specs.Address.{Block}
 use Rattle.urpf_base.specs.Lists.{Has}
+use Rattle.urpf_base.specs.declared.cells.Cell.{Cell}
 use Rattle.urpf_base.specs.declared.kinds.Kind.{Kind}
 use Rattle.urpf_base.specs.declared.sessions.SessionConfig.{SessionConfig}
 use Rattle.adj_rib.proofs.Routes.{has_pair}
 use Rattle.adj_rib.specs.Routes.{Routes, pairs_of}
+use Rattle.origin_pairs.specs.Pairs.{IsPairSet, Pair}
+use Rattle.prefix_map.specs.Mapped.{Mapped}
 use Rattle.router_config.specs.Configured.{IsConfigured}
 use Rattle.router_config.specs.Settings.{Settings}
 use Rattle.rpf_plain.proofs.Listed.{configured}
-use Rattle.rpf_plain.proofs.Drained.{no_rows}
+use Rattle.rpf_plain.proofs.Drained.{no_rows, one_table}
 use Rattle.rpf_plain.specs.Cells.{IsTable, cell_at}
 use Rattle.rpf_plain.specs.Engine.{EngineState, new_engine}
 use Rattle.rpf_plain.specs.Rows.{repeats}
 use Rattle.rpf_plain.specs.World as sets
 use Rattle.rpf_plain.specs.World.{World, roles_of}
 use Rattle.rpf_plain.specs.declared.rows.Row.{Row}
-use Rattle.control_core.specs.Controls.{AllStand, AreAtMost, IsOpened, first_mark, items_of, not_begun}
+use Rattle.control_core.specs.Controls.{AllStand, AreAtMost, IsOpened, IsUnused, first_mark, items_of, not_begun}
+use Rattle.control_core.specs.Controls.{without_pairs}
 use Rattle.control_core.specs.Effects.{Holds, HoldsAll}
 use Rattle.control_core.specs.EngineRows.{rows_of, session_rows}
 use Rattle.control_core.specs.History.{StandsFor}
 use Rattle.control_core.specs.Kept.{AreNumbered, IsKept, all_rows}
 use Rattle.control_core.specs.Openings.{AreNew, zeros}
-use Rattle.control_core.specs.States.{ControlState, PeerState}
-use Rattle.control_core.specs.Worlds.{Course, IsRowOfAny, kinds_after}
+use Rattle.control_core.specs.States.{ControlState, PeerState, Published}
+use Rattle.control_core.specs.Worlds.{Course, IsRowOfAny, Opening, kinds_after, pairs_after}
 use Rattle.control_core.specs.declared.limits.Limits.{Limits}
 use Rattle.control_core.specs.declared.limits.TheConstants.{ITEM_LIMIT}
+use Rattle.control_core.proofs.PairEdits.{none_set}
 use Rattle.control_core.proofs.Publications.{at_most_self}
 use Rattle.control_core.proofs.Standing.{now_world}
 
@@ -100,13 +104,6 @@ new_push interfaces sessions peers session peer new config stands empty_routes n
   unmet = each_push (λ p. p.ended ≡ false) peers peer new.unmet unmet;
 }
 
--- the next session of a list
-pub take_next : {X : Type 0} (xs : List X) (n : ℕ) (x : X) → slice_get xs n ≡ Some x
-    → take (suc n) xs ≡ take n xs ++ x ∷ []
-take_next [] n x there = cc
-take_next (y ∷ xs) zero x there = ap (λ o. unwrap_or o x ∷ []) there
-take_next (y ∷ xs) (suc n) x there = ap (λ ys. y ∷ ys) (take_next xs n x there)
-
 roles_configured : (interfaces : List (ℕ × Kind)) (peers : List PeerState)
     → AllByRecursion (λ p. IsConfigured interfaces p.session.config.iface) peers
     → AllByRecursion (λ p. sets.IsConfigured (roles_of interfaces) p.session.config.iface) peers
@@ -123,7 +120,7 @@ kept_new interfaces sessions peers engine limits new is few =
     (record {
       rows = λ row. ap (λ (rs : List Row). repeats rs row) (sym new.rows);
       roles = refl;
-      pairs = refl;
+      pairs = tt;
       configured = roles_configured interfaces peers new.configured;
       numbered = new.numbered;
       few = few;
@@ -140,49 +137,119 @@ no_row_yet (s ∷ sessions) [] row never = never
 no_row_yet (s ∷ sessions) (count ∷ counts) row (inl is) = holds_none count row is.1
 no_row_yet (s ∷ sessions) (count ∷ counts) row (inr is) = no_row_yet sessions counts row is
 
--- a new control stands for its configuration, no edits and no events
-pub opened : (config : Settings) (limits : Limits) (control : ControlState)
-    → AreNew config.interfaces config.sessions control.peers
-    → control.kinds ≡ config.interfaces → control.edits ≡ 0
-    → control.engine ≡ new_engine (roles_of config.interfaces) → control.marks ≡ first_mark config.sessions ∷ []
-    → control.published.kinds ≡ config.interfaces → control.published.cells ≡ empty → control.limits ≡ limits
+-- after no edits the interfaces and the pairs are those of the opening
+no_kinds : (n : ℕ) (kinds : List (ℕ × Kind)) → kinds_after (take n []) kinds ≡ kinds
+no_kinds zero kinds = refl
+no_kinds (suc n) kinds = refl
+
+no_pairs_edited : (n : ℕ) (pairs : List Pair) → pairs_after (take n []) pairs ≡ pairs
+no_pairs_edited zero pairs = refl
+no_pairs_edited (suc n) pairs = refl
+
+-- a control stands for its opening, no edits and no events, where its table is empty and its pairs are those of the
+-- opening
+pub opened : (opening : Opening) (limits : Limits) (control : ControlState)
+    → AllStand (map not_begun opening.settings.sessions) control.peers
+    → AllByRecursion (λ p. p.ended ≡ false) control.peers
+    → control.kinds ≡ opening.settings.interfaces → control.edits ≡ 0
+    → control.engine.base ≡ empty → IsPairSet opening.pairs control.engine.world.pairs
+    → control.marks ≡ first_mark opening.settings.sessions ∷ []
+    → control.published.kinds ≡ opening.settings.interfaces
+    → ((p : Block) → cell_at control.published.cells p ≡ cell_at empty p) → control.limits ≡ limits
     → control.exhausted ≡ false → IsKept control.peers control.kinds control.engine control.limits
-    → IsOpened config limits control
-opened config limits control new kinds edits engine marks judged cells is_limits exhausted kept = record {
-  stands = record {
-    sessions = configs_are config.sessions;
-    stand = new.stand;
-    counted = edits;
-    earlier = [];
-    last = first_mark config.sessions;
-    marks = marks;
-    reached = record {
-      edits = omega (arith, edits);
-      items = subst (AreAtMost (map (λ s. 0) config.sessions)) (sym (all_none config.sessions control.peers new.stand))
-          (at_most_self (map (λ s. 0) config.sessions));
-    };
-    now = now_world config [] (map not_begun config.sessions) 0 control new.stand kept
-        (kinds ∙ sym (ap (λ (n : ℕ). kinds_after (take n []) config.interfaces) edits));
-    marked = (new_engine (roles_of config.interfaces)).world;
-    is_marked = record {
-      edited = judged;
-      roles = ap roles_of (sym judged);
-      pairs = refl;
-      rows = λ row. (
-        λ never. absurd never,
-        λ is. no_row_yet config.sessions (map (λ s. 0) config.sessions) row is,
-      );
-    };
-    base = subst (λ (e : EngineState). IsTable (new_engine (roles_of config.interfaces)).world e.base) (sym engine)
-        (no_rows (roles_of config.interfaces) []);
-    cells = λ p.
-        ap (λ t. cell_at t p) (cells ∙ sym (ap (λ (e : EngineState). e.base) engine));
-  };
-  unmet = new.unmet;
-  marks = marks;
-  limits_are = is_limits;
-  exhausted = exhausted;
-}
+    → IsOpened opening limits control
+opened opening limits control stand unmet kinds edits base pairs marks judged cells is_limits exhausted kept =
+    let sessions : List SessionConfig = opening.settings.sessions in
+    let roles = roles_of opening.settings.interfaces in
+    record {
+      stands = record {
+        sessions = configs_are sessions;
+        stand = stand;
+        counted = edits;
+        earlier = [];
+        last = first_mark sessions;
+        marks = marks;
+        reached = record {
+          edits = omega (arith, edits);
+          items = subst (AreAtMost (map (λ s. 0) sessions)) (sym (all_none sessions control.peers stand))
+              (at_most_self (map (λ s. 0) sessions));
+        };
+        now = now_world opening [] (map not_begun sessions) 0 control stand kept
+            (kinds ∙ sym (no_kinds control.edits opening.settings.interfaces))
+            (subst (λ (ps : List Pair). IsPairSet ps control.engine.world.pairs)
+            (sym (no_pairs_edited control.edits opening.pairs)) pairs);
+        marked = record { rows = []; roles = roles; pairs = control.engine.world.pairs };
+        is_marked = record {
+          edited = judged;
+          roles = ap roles_of (sym judged);
+          pairs = pairs;
+          rows = λ row. (
+            λ never. absurd never,
+            λ is. no_row_yet sessions (map (λ s. 0) sessions) row is,
+          );
+        };
+        base = subst (IsTable (record { rows = []; roles = roles; pairs = control.engine.world.pairs })) (sym base)
+            (no_rows roles control.engine.world.pairs);
+        cells = λ p. cells p ∙ sym (ap (λ t. cell_at t p) base);
+      };
+      unmet = unmet;
+      marks = marks;
+      limits_are = is_limits;
+      exhausted = exhausted;
+    }
+
+none_has : (rows : List Row) → ((row : Row) → Has rows row → ⊥) → rows ≡ []
+none_has [] never = refl
+none_has (row ∷ rows) never = absurd (never row (inl refl))
+
+-- where a world has no row its table is empty
+empty_table : (world : World) (table : Mapped Cell) → ((row : Row) → Has world.rows row → ⊥) → IsTable world table
+    → table ≡ empty
+empty_table world table never is =
+    let without_rows : List Row → World = λ rows. record { rows = rows; roles = world.roles; pairs = world.pairs } in
+    let rows : world.rows ≡ [] = none_has world.rows never in
+    one_table (without_rows []) table empty (subst (λ (rs : List Row). IsTable (without_rows rs) table) rows is)
+    (no_rows world.roles world.pairs)
+
+-- an engine of a control at its opening has no pairs
+pub no_pairs_yet : (control : ControlState) → IsUnused control → control.engine.world.pairs ≡ []
+no_pairs_yet control unused =
+    none_set control.engine.world.pairs
+    (subst (λ (ps : List Pair). IsPairSet ps control.engine.world.pairs) (no_pairs_edited control.edits [])
+    unused.opened.stands.now.pairs)
+
+-- a control was given pairs
+pub record IsLoaded (table : List Pair) (old new : ControlState) : Type 0 where
+  pub peers : new.peers ≡ old.peers
+  pub kinds : new.kinds ≡ old.kinds
+  pub edits : new.edits ≡ old.edits
+  pub marks : new.marks ≡ old.marks
+  pub published : new.published ≡ old.published
+  pub limits : new.limits ≡ old.limits
+  pub exhausted : new.exhausted ≡ old.exhausted
+  pub base : new.engine.base ≡ old.engine.base
+  pub pairs : IsPairSet table new.engine.world.pairs
+
+-- a control at its opening is at one with the pairs once they are loaded
+pub opened_loaded : (settings : Settings) (limits : Limits) (pairs : List Pair) (old new : ControlState)
+    → IsOpened (without_pairs settings) limits old → IsLoaded pairs old new
+    → IsKept new.peers new.kinds new.engine new.limits
+    → IsOpened (record { settings = settings; pairs = pairs }) limits new
+opened_loaded settings limits pairs old new was is kept =
+    let stands = was.stands in
+    let base : old.engine.base ≡ empty =
+    empty_table stands.marked old.engine.base
+    (λ row has. no_row_yet settings.sessions stands.last.items row ((stands.is_marked.rows row).0 has)) stands.base in
+    opened (record { settings = settings; pairs = pairs }) limits new
+    (subst (AllStand (map not_begun settings.sessions)) (sym is.peers) stands.stand)
+    (subst (AllByRecursion (λ (p : PeerState). p.ended ≡ false)) (sym is.peers) was.unmet)
+    (is.kinds ∙ stands.now.edited ∙ no_kinds old.edits settings.interfaces)
+    (is.edits ∙ stands.counted) (is.base ∙ base) is.pairs
+    (is.marks ∙ was.marks)
+    (ap (λ (w : Published). w.kinds) is.published ∙ stands.is_marked.edited
+    ∙ no_kinds stands.last.edits settings.interfaces)
+    (λ p. ap (λ (w : Published). cell_at w.cells p) is.published ∙ stands.cells p ∙ ap (λ t. cell_at t p) base)
+    (is.limits ∙ was.limits_are) (is.exhausted ∙ was.exhausted) kept
 
 none_listed : (pairs : List (Block × Option ℕ)) → ((pair : Block × Option ℕ) → Has pairs pair → ⊥) → pairs ≡ []
 none_listed [] never = refl

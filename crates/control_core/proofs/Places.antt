@@ -1,5 +1,6 @@
 -- Lists with another element at one place.
-use Rattle.std.proofs.Common.{◌≡◌, ℕ, zero, suc, ◌<◌, List, [], ◌∷◌, length, Some, refl, ap, arith, unwrap_or}
+use Rattle.std.proofs.Common.{◌≡◌, ℕ, zero, suc, ◌<◌, List, [], ◌∷◌, ◌++◌, length, take, Some, refl, ap, arith}
+use Rattle.std.proofs.Common.{unwrap_or}
 use Rattle.std.specs.Prelude.{slice_get, slice_set}
 
 pub some_one : {X : Type 0} (a b : X) → Some a ≡ Some b → a ≡ b
@@ -23,3 +24,10 @@ pub get_set : {X : Type 0} (xs : List X) (i : ℕ) (x y : X) → slice_get xs i 
 get_set [] i x y there = cc
 get_set (z ∷ xs) zero x y there = refl
 get_set (z ∷ xs) (suc i) x y there = get_set xs i x y there
+
+-- one element more of a list
+pub take_next : {X : Type 0} (xs : List X) (n : ℕ) (x : X) → slice_get xs n ≡ Some x
+    → take (suc n) xs ≡ take n xs ++ x ∷ []
+take_next [] n x there = cc
+take_next (y ∷ xs) zero x there = ap (λ o. unwrap_or o x ∷ []) there
+take_next (y ∷ xs) (suc n) x there = ap (λ ys. y ∷ ys) (take_next xs n x there)

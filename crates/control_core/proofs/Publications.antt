@@ -5,8 +5,8 @@ use Rattle.urpf_base.specs.Address.{Block}
 use Rattle.urpf_base.specs.declared.cells.Cell.{Cell}
 use Rattle.urpf_base.specs.declared.cells.CellChange.{CellChange}
 use Rattle.urpf_base.specs.declared.kinds.Kind.{Kind}
+use Rattle.origin_pairs.specs.Pairs.{IsPairSet}
 use Rattle.prefix_map.specs.Mapped.{Mapped}
-use Rattle.router_config.specs.Settings.{Settings}
 use Rattle.router_config.specs.declared.edits.Edit.{Edit}
 use Rattle.rpf_plain.proofs.Changed.{same_or_other}
 use Rattle.rpf_plain.proofs.Differing.{difference_is}
@@ -21,7 +21,7 @@ use Rattle.control_core.specs.Kept.{IsKept}
 use Rattle.control_core.specs.Peers.{peer_of}
 use Rattle.control_core.specs.declared.peering.Peering.{Peering}
 use Rattle.control_core.specs.States.{ControlState, PeerState}
-use Rattle.control_core.specs.Worlds.{Course, Position, kinds_after, last_number}
+use Rattle.control_core.specs.Worlds.{Course, Opening, Position, kinds_after, last_number, pairs_after}
 use Rattle.control_core.proofs.Standing.{now_world}
 
 -- what is judged by has the cells of the table of now, where it had those of the table before
@@ -73,7 +73,7 @@ is_published items old new answer parts same_items peers kept =
     }
 
 -- a publication counts the cells that differ
-pub published_difference : (opening : Settings) (edits : List Edit) (courses : List Course) (changes : List CellChange)
+pub published_difference : (opening : Opening) (edits : List Edit) (courses : List Course) (changes : List CellChange)
     (answer : ℕ × ℕ) (old new : ControlState) → ControlStandsFor opening edits courses old
     → IsPublished changes answer.0 old new → answer.1 ≡ length changes
     → PublishesDifference opening edits courses old new answer
@@ -96,15 +96,20 @@ published_difference opening edits courses changes answer old new stands is coun
 }
 
 -- after a publication the control stands for the same
-pub stands_published : (opening : Settings) (edits : List Edit) (courses : List Course) (changes : List CellChange)
+pub stands_published : (opening : Opening) (edits : List Edit) (courses : List Course) (changes : List CellChange)
     (number : ℕ) (old new : ControlState) → ControlStandsFor opening edits courses old
     → IsPublished changes number old new → IsKept new.peers new.kinds new.engine new.limits
     → ControlStandsFor opening edits courses new
 stands_published opening edits courses changes number old new stands is kept =
     let stand : AllStand courses new.peers = subst (AllStand courses) (sym is.peers) stands.stand in
     let same_edits : new.edits ≡ old.edits = is.edits in
-    let kinds : new.kinds ≡ kinds_after (take new.edits edits) opening.interfaces = is.kinds ∙ stands.now.edited
-    ∙ ap (λ (n : ℕ). kinds_after (take n edits) opening.interfaces) (sym same_edits) in
+    let kinds : new.kinds ≡ kinds_after (take new.edits edits) opening.settings.interfaces =
+    is.kinds ∙ stands.now.edited
+    ∙ ap (λ (n : ℕ). kinds_after (take n edits) opening.settings.interfaces) (sym same_edits) in
+    let pairs : IsPairSet (pairs_after (take new.edits edits) opening.pairs) new.engine.world.pairs =
+    subst (λ (w : World). IsPairSet (pairs_after (take new.edits edits) opening.pairs) w.pairs) (sym is.drained.world)
+    (subst (λ (n : ℕ). IsPairSet (pairs_after (take n edits) opening.pairs) old.engine.world.pairs) (sym same_edits)
+    stands.now.pairs) in
     record {
       sessions = stands.sessions;
       stand = stand;
@@ -117,7 +122,7 @@ stands_published opening edits courses changes number old new stands is kept =
         items = subst (λ (ps : List PeerState). AreAtMost (items_of old.peers) (items_of ps)) (sym is.peers)
             (at_most_self (items_of old.peers));
       };
-      now = now_world opening edits courses number new stand kept kinds;
+      now = now_world opening edits courses number new stand kept kinds pairs;
       marked = old.engine.world;
       is_marked = record {
         edited = is.judged ∙ stands.now.edited;

@@ -7,9 +7,9 @@ use Rattle.urpf_base.specs.Lists.{Has}
 use Rattle.urpf_base.specs.declared.cells.Cell.{Cell}
 use Rattle.urpf_base.specs.declared.kinds.Kind.{Kind}
 use Rattle.feed_io.specs.Events.{Event}
+use Rattle.origin_pairs.specs.Pairs.{IsPairSet, Pair}
 use Rattle.prefix_map.specs.Mapped.{Mapped}
 use Rattle.router_config.specs.Edits.{edited}
-use Rattle.router_config.specs.Settings.{Settings}
 use Rattle.router_config.specs.declared.edits.Edit.{Edit}
 use Rattle.rpf_plain.specs.Cells.{IsTable, cell_at}
 use Rattle.rpf_plain.specs.World.{roles_of}
@@ -18,7 +18,7 @@ use Rattle.control_core.specs.Controls.{AllStand, AreAtMost, ControlStandsFor, g
 use Rattle.control_core.specs.History.{StandsFor}
 use Rattle.control_core.specs.Kept.{IsKept}
 use Rattle.control_core.specs.States.{ControlState, PeerState, Published}
-use Rattle.control_core.specs.Worlds.{Course, IsWorldAt, kinds_after}
+use Rattle.control_core.specs.Worlds.{Course, IsWorldAt, Opening, kinds_after, pairs_after, pairs_edited}
 use Rattle.control_core.proofs.Many.{at_most_set, configs_set, past_set, stand_at, stand_set}
 use Rattle.control_core.proofs.NowWorld.{rows_now}
 
@@ -32,22 +32,24 @@ pub record GoesOn (session : ℕ) (peer later : PeerState) (old new : ControlSta
   pub edits : new.edits ≡ old.edits
   pub marks : new.marks ≡ old.marks
   pub published : new.published ≡ old.published
+  pub pairs : new.engine.world.pairs ≡ old.engine.world.pairs
   pub base : new.engine.base ≡ old.engine.base
 
 -- the position of a control, by its parts
-pub now_world : (opening : Settings) (edits : List Edit) (courses : List Course) (number : ℕ) (control : ControlState)
+pub now_world : (opening : Opening) (edits : List Edit) (courses : List Course) (number : ℕ) (control : ControlState)
     → AllStand courses control.peers → IsKept control.peers control.kinds control.engine control.limits
-    → control.kinds ≡ kinds_after (take control.edits edits) opening.interfaces
+    → control.kinds ≡ kinds_after (take control.edits edits) opening.settings.interfaces
+    → IsPairSet (pairs_after (take control.edits edits) opening.pairs) control.engine.world.pairs
     → IsWorldAt opening edits courses (position_of control number) control.kinds control.engine.world
-now_world opening edits courses number control stand kept kinds = record {
+now_world opening edits courses number control stand kept kinds pairs = record {
   edited = kinds;
   roles = kept.roles;
-  pairs = kept.pairs;
+  pairs = pairs;
   rows = λ row. rows_now courses control.peers control.kinds control.engine control.limits row stand kept;
 }
 
 -- one session took more items
-pub stands_pulled : (opening : Settings) (edits : List Edit) (courses : List Course) (session : ℕ) (course : Course)
+pub stands_pulled : (opening : Opening) (edits : List Edit) (courses : List Course) (session : ℕ) (course : Course)
     (gave : List Event) (more : List Effect) (peer later : PeerState) (old new : ControlState)
     → ControlStandsFor opening edits courses old → GoesOn session peer later old new
     → IsKept new.peers new.kinds new.engine new.limits → slice_get courses session ≡ Some course
@@ -58,8 +60,13 @@ stands_pulled opening edits courses session course gave more peer later old new 
     let own = stand_at courses old.peers session course peer stands.stand got on.was in
     let stand : AllStand next new.peers = subst (AllStand next) (sym on.peers)
     (stand_set courses old.peers session course later gave more stands.stand got (on.config ∙ own.0) later_stands) in
-    let kinds : new.kinds ≡ kinds_after (take new.edits edits) opening.interfaces = on.kinds ∙ stands.now.edited
-    ∙ ap (λ (n : ℕ). kinds_after (take n edits) opening.interfaces) (sym on.edits) in
+    let kinds : new.kinds ≡ kinds_after (take new.edits edits) opening.settings.interfaces =
+    on.kinds ∙ stands.now.edited
+    ∙ ap (λ (n : ℕ). kinds_after (take n edits) opening.settings.interfaces) (sym on.edits) in
+    let pairs : IsPairSet (pairs_after (take new.edits edits) opening.pairs) new.engine.world.pairs =
+    subst (IsPairSet (pairs_after (take new.edits edits) opening.pairs)) (sym on.pairs)
+    (subst (λ (n : ℕ). IsPairSet (pairs_after (take n edits) opening.pairs) old.engine.world.pairs) (sym on.edits)
+    stands.now.pairs) in
     record {
       sessions = configs_set courses session course gave more got ∙ stands.sessions;
       stand = stand;
@@ -72,11 +79,10 @@ stands_pulled opening edits courses session course gave more peer later old new 
         items = subst (λ (ps : List PeerState). AreAtMost stands.last.items (items_of ps)) (sym on.peers)
             (at_most_set stands.last.items old.peers session peer later stands.reached.items on.was on.more_items);
       };
-      now = now_world opening edits next stands.last.number new stand kept kinds;
+      now = now_world opening edits next stands.last.number new stand kept kinds pairs;
       marked = stands.marked;
       is_marked = record {
-        edited = subst (λ (p : Published). p.kinds ≡ kinds_after (take stands.last.edits edits) opening.interfaces)
-            (sym on.published) stands.is_marked.edited;
+        edited = ap (λ (p : Published). p.kinds) on.published ∙ stands.is_marked.edited;
         roles = stands.is_marked.roles
             ∙ ap (λ (p : Published). roles_of p.kinds) (sym on.published);
         pairs = stands.is_marked.pairs;
@@ -97,17 +103,24 @@ pub kinds_after-push : (edits : List Edit) (edit : Edit) (kinds : List (ℕ × K
 kinds_after-push [] edit kinds = refl
 kinds_after-push (e ∷ edits) edit kinds = kinds_after-push edits edit (edited e kinds)
 
--- the edits and the interfaces of a control are one more edit on
+pub pairs_after-push : (edits : List Edit) (edit : Edit) (pairs : List Pair)
+    → pairs_after (edits ++ edit ∷ []) pairs ≡ pairs_edited edit (pairs_after edits pairs)
+pairs_after-push [] edit pairs = refl
+pairs_after-push (e ∷ edits) edit pairs = pairs_after-push edits edit (pairs_edited e pairs)
+
+-- the edits, the interfaces and the pairs of a control are one more edit on
 pub record IsEdited (edit : Edit) (old new : ControlState) : Type 0 where
   pub kinds : new.kinds ≡ edited edit old.kinds
   pub edits : new.edits ≡ old.edits + 1
   pub peers : new.peers ≡ old.peers
   pub marks : new.marks ≡ old.marks
   pub published : new.published ≡ old.published
+  pub pairs : (pairs : List Pair) → IsPairSet pairs old.engine.world.pairs
+      → IsPairSet (pairs_edited edit pairs) new.engine.world.pairs
   pub base : new.engine.base ≡ old.engine.base
 
 -- an edit was taken
-pub stands_edited : (opening : Settings) (edits : List Edit) (courses : List Course) (edit : Edit)
+pub stands_edited : (opening : Opening) (edits : List Edit) (courses : List Course) (edit : Edit)
     (old new : ControlState) → ControlStandsFor opening edits courses old → IsEdited edit old new
     → IsKept new.peers new.kinds new.engine new.limits
     → ControlStandsFor opening (edits ++ edit ∷ []) courses new
@@ -122,11 +135,19 @@ stands_edited opening edits courses edit old new stands is kept =
     let all_old : take old.edits edits ≡ edits = take_all old.edits edits (omega (arith, stands.counted)) in
     let all_new : take new.edits (edits ++ edit ∷ []) ≡ edits ++ edit ∷ [] =
     take_all new.edits (edits ++ edit ∷ []) (omega (arith, count)) in
-    let kinds : new.kinds ≡ kinds_after (take new.edits (edits ++ edit ∷ [])) opening.interfaces =
-    is.kinds ∙ ap (edited edit) (stands.now.edited ∙ ap (λ es. kinds_after es opening.interfaces) all_old)
-    ∙ sym (kinds_after-push edits edit opening.interfaces)
-    ∙ sym (ap (λ es. kinds_after es opening.interfaces) all_new) in
-    let within : stands.last.edits ≤ length edits = omega (arith, stands.reached.edits, stands.counted) in
+    let kinds : new.kinds ≡ kinds_after (take new.edits (edits ++ edit ∷ [])) opening.settings.interfaces =
+    is.kinds ∙ ap (edited edit) (stands.now.edited ∙ ap (λ es. kinds_after es opening.settings.interfaces) all_old)
+    ∙ sym (kinds_after-push edits edit opening.settings.interfaces)
+    ∙ sym (ap (λ es. kinds_after es opening.settings.interfaces) all_new) in
+    let told : pairs_after (take new.edits (edits ++ edit ∷ [])) opening.pairs
+    ≡ pairs_edited edit (pairs_after (take old.edits edits) opening.pairs) =
+    ap (λ es. pairs_after es opening.pairs) all_new ∙ pairs_after-push edits edit opening.pairs
+    ∙ sym (ap (λ es. pairs_edited edit (pairs_after es opening.pairs)) all_old) in
+    let pairs : IsPairSet (pairs_after (take new.edits (edits ++ edit ∷ [])) opening.pairs) new.engine.world.pairs =
+    subst (λ (ps : List Pair). IsPairSet ps new.engine.world.pairs) (sym told)
+    (is.pairs (pairs_after (take old.edits edits) opening.pairs) stands.now.pairs) in
+    let marked_edits : take stands.last.edits (edits ++ edit ∷ []) ≡ take stands.last.edits edits =
+    take-append-le stands.last.edits edits (edit ∷ []) (omega (arith, stands.reached.edits, stands.counted)) in
     record {
       sessions = stands.sessions;
       stand = stand;
@@ -139,14 +160,14 @@ stands_edited opening edits courses edit old new stands is kept =
         items = subst (λ (ps : List PeerState). AreAtMost stands.last.items (items_of ps)) (sym is.peers)
             stands.reached.items;
       };
-      now = now_world opening (edits ++ edit ∷ []) courses stands.last.number new stand kept kinds;
+      now = now_world opening (edits ++ edit ∷ []) courses stands.last.number new stand kept kinds pairs;
       marked = stands.marked;
       is_marked = record {
         edited = ap (λ (p : Published). p.kinds) is.published ∙ stands.is_marked.edited
-            ∙ sym (ap (λ es. kinds_after es opening.interfaces)
-            (take-append-le stands.last.edits edits (edit ∷ []) within));
+            ∙ sym (ap (λ es. kinds_after es opening.settings.interfaces) marked_edits);
         roles = stands.is_marked.roles ∙ ap (λ (p : Published). roles_of p.kinds) (sym is.published);
-        pairs = stands.is_marked.pairs;
+        pairs = subst (λ es. IsPairSet (pairs_after es opening.pairs) stands.marked.pairs) (sym marked_edits)
+            stands.is_marked.pairs;
         rows = stands.is_marked.rows;
       };
       base = subst (IsTable stands.marked) (sym is.base) stands.base;

@@ -2,7 +2,6 @@
 use Rattle.std.proofs.Common.{◌≡◌, ◌∙◌, ℕ, ◌≤◌, List, ◌++◌, Option, Some, None, Result, ap, arith, refl, sym, subst}
 use Rattle.std.specs.Prelude.{slice_get, slice_set}
 use Rattle.feed_io.specs.Events.{Event}
-use Rattle.router_config.specs.Settings.{Settings}
 use Rattle.router_config.specs.declared.edits.Edit.{Edit}
 use Rattle.session_fsm.specs.declared.items.Effect.{Effect}
 use Rattle.control_core.specs.declared.limits.Limits.{Limits}
@@ -12,7 +11,7 @@ use Rattle.control_core.specs.History.{StandsFor}
 use Rattle.control_core.specs.Kept.{IsKept}
 use Rattle.control_core.specs.Pulls.{TakesAtMost}
 use Rattle.control_core.specs.States.{ControlState, PeerState}
-use Rattle.control_core.specs.Worlds.{Course}
+use Rattle.control_core.specs.Worlds.{Course, Opening}
 use Rattle.control_core.proofs.Places.{get_set, set_same, some_one}
 use Rattle.control_core.proofs.Standing.{stands_pulled}
 
@@ -22,6 +21,7 @@ pub record KeepsRest (old new : ControlState) : Type 0 where
   pub edits : new.edits ≡ old.edits
   pub marks : new.marks ≡ old.marks
   pub published : new.published ≡ old.published
+  pub pairs : new.engine.world.pairs ≡ old.engine.world.pairs
   pub base : new.engine.base ≡ old.engine.base
 
 -- a pull takes no item back
@@ -32,7 +32,7 @@ no_fewer (Some count) old new most = most.0
 -- a session was pulled
 pub stands_by_pull : {F : Type 0} {left : F → Option (List Event)} {session : ℕ} {count : Option ℕ} {limits : Limits}
     {old_feeds new_feeds : List F} {old_held new_held : Option (List ℕ)} {result : Result (Unit {0}) RunFault}
-    (opening : Settings) (edits : List Edit) (courses : List Course) (course : Course) (peer : PeerState)
+    (opening : Opening) (edits : List Edit) (courses : List Course) (course : Course) (peer : PeerState)
     (gave : List Event) (more : List Effect) (old new : ControlState) → ControlStandsFor opening edits courses old
     → PullsOne left session count limits old_feeds new_feeds old_held new_held result old.peers new.peers
     → KeepsRest old new → IsKept new.peers new.kinds new.engine new.limits
@@ -54,12 +54,13 @@ stands_by_pull {session = session} {count = count} opening edits courses course 
       edits = rest.edits;
       marks = rest.marks;
       published = rest.published;
+      pairs = rest.pairs;
       base = rest.base;
     })
     kept got (subst (StandsFor (course.events ++ gave) (course.effects ++ more)) (sym same) later)
 
 -- nothing was done
-pub stands_still : (session : ℕ) (opening : Settings) (edits : List Edit) (courses : List Course) (course : Course)
+pub stands_still : (session : ℕ) (opening : Opening) (edits : List Edit) (courses : List Course) (course : Course)
     (peer : PeerState) (gave : List Event) (more : List Effect) (control : ControlState)
     → ControlStandsFor opening edits courses control
     → IsKept control.peers control.kinds control.engine control.limits
@@ -77,6 +78,7 @@ stands_still session opening edits courses course peer gave more control stands 
       edits = refl;
       marks = refl;
       published = refl;
+      pairs = refl;
       base = refl;
     })
     kept got later

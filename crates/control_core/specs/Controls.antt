@@ -11,6 +11,7 @@ use Rattle.urpf_base.specs.declared.sessions.SessionConfig.{SessionConfig}
 use Rattle.urpf_base.specs.declared.verdicts.Verdict.{Verdict}
 use Rattle.adj_rib.specs.Routes.{prefixes_of}
 use Rattle.feed_io.specs.Events.{Event}
+use Rattle.origin_pairs.specs.Pairs.{IsPairSet, Pair}
 use Rattle.router_config.specs.Edits.{edited}
 use Rattle.router_config.specs.Settings.{Settings}
 use Rattle.router_config.specs.declared.edits.Edit.{Edit}
@@ -25,7 +26,7 @@ use Rattle.control_core.specs.History.{StandsFor}
 use Rattle.control_core.specs.Pulls.{Pull}
 use Rattle.control_core.specs.Judging.{Absorbs}
 use Rattle.control_core.specs.States.{ControlState, PeerState, Published}
-use Rattle.control_core.specs.Worlds.{Course, IsWorldAt, Position, last_number}
+use Rattle.control_core.specs.Worlds.{Course, IsWorldAt, Opening, Position, last_number, pairs_edited}
 
 -- how many items each session took
 abbrev pub items_of : List PeerState → List ℕ
@@ -58,9 +59,9 @@ pub record IsReached (mark now : Position) : Type 0 where
 -- a control stands for an opening, edits and the course of each session: its kinds are those of the opening after the
 -- edits, its engine has the world of now, its table is that of the world of the last mark, and it judges by the same
 -- cells; no event and no edit is kept
-pub record ControlStandsFor (opening : Settings) (edits : List Edit) (courses : List Course)
+pub record ControlStandsFor (opening : Opening) (edits : List Edit) (courses : List Course)
     (control : ControlState) : Type 0 where
-  pub sessions : map (λ c. c.config) courses ≡ opening.sessions
+  pub sessions : map (λ c. c.config) courses ≡ opening.settings.sessions
   pub stand : AllStand courses control.peers
   pub counted : control.edits ≡ length edits
   pub earlier : List Position
@@ -82,12 +83,22 @@ abbrev pub first_mark : List SessionConfig → Position
 first_mark sessions = record { number = 0; edits = 0; items = map (λ s. 0) sessions }
 
 -- a new control: no event came, no feed met its end, nothing was edited, and mark 0 is the only one
-pub record IsOpened (config : Settings) (limits : Limits) (control : ControlState) : Type 0 where
-  pub stands : ControlStandsFor config [] (map not_begun config.sessions) control
+pub record IsOpened (opening : Opening) (limits : Limits) (control : ControlState) : Type 0 where
+  pub stands : ControlStandsFor opening [] (map not_begun opening.settings.sessions) control
   pub unmet : AllByRecursion (λ p. p.ended ≡ false) control.peers
-  pub marks : control.marks ≡ first_mark config.sessions ∷ []
+  pub marks : control.marks ≡ first_mark opening.settings.sessions ∷ []
   pub limits_are : control.limits ≡ limits
   pub exhausted : control.exhausted ≡ false
+
+-- what a run begins with that has no pairs
+abbrev pub without_pairs : Settings → Opening
+without_pairs settings = record { settings = settings; pairs = [] }
+
+-- nothing was loaded, pulled, edited or published yet
+pub record IsUnused (control : ControlState) : Type 0 where
+  pub settings : Settings
+  pub limits : Limits
+  pub opened : IsOpened (without_pairs settings) limits control
 
 -- how many routes the sessions have together
 abbrev pub route_count : List PeerState → ℕ
@@ -133,12 +144,22 @@ abbrev pub goes_on : Course → List Event → List Effect → Course
 goes_on course gave more =
     record { config = course.config; events = course.events ++ gave; effects = course.effects ++ more }
 
--- where the roles of an engine are those of the interfaces, they are so after the edit; all else of it is as it was
-pub record EditsRoles (edit : Edit) (old new : EngineState) : Type 0 where
+-- the pairs of the table are those of the control, each once, and they are counted; all else is as it was
+pub record LoadsPairs (table : List Pair) (old new : ControlState) (answer : ℕ) : Type 0 where
+  pub pairs : IsPairSet table new.engine.world.pairs
+  pub count : answer ≡ length new.engine.world.pairs
+  pub kinds : KeepsKinds old new
+  pub peers : new.peers ≡ old.peers
+  pub published : KeepsPublished old new
+
+-- where the roles of an engine are those of the interfaces, they are so after the edit, and so are its pairs where they
+-- are those of a list; all else of it is as it was
+pub record EditsSets (edit : Edit) (old new : EngineState) : Type 0 where
   pub rows : new.world.rows ≡ old.world.rows
   pub roles : (kinds : List (ℕ × Kind)) → old.world.roles ≡ roles_of kinds
       → new.world.roles ≡ roles_of (edited edit kinds)
-  pub pairs : new.world.pairs ≡ old.world.pairs
+  pub pairs : (pairs : List Pair) → IsPairSet pairs old.world.pairs
+      → IsPairSet (pairs_edited edit pairs) new.world.pairs
   pub base : new.base ≡ old.base
 
 -- an edit counts, also where it changes nothing; the routes and the last publication are as they were
@@ -171,7 +192,7 @@ pub record PublishesParts (items : List ℕ) (edits : ℕ) (kinds : List (ℕ ×
   pub absorbs : Absorbs changes old_shown.cells new_shown.cells
 
 -- a publication counts the cells that differ between the worlds of the last mark and of now
-pub record PublishesDifference (opening : Settings) (edits : List Edit) (courses : List Course)
+pub record PublishesDifference (opening : Opening) (edits : List Edit) (courses : List Course)
     (old new : ControlState) (answer : ℕ × ℕ) : Type 0 where
   pub earlier : List Position
   pub last : Position

@@ -7,6 +7,7 @@ pub mod ItemSteps
 pub mod Items
 pub mod Judging
 pub mod Kept
+pub mod Loads
 pub mod Openings
 pub mod Peers
 pub mod Pulls

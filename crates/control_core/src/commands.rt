@@ -1,24 +1,24 @@
-//! What a control does: it pulls the items of a session, takes edits, publishes cells under numbers,
-//! and judges sources by what was published last.
+//! What a control does: it loads the pairs of a table, pulls the items of a session, takes edits,
+//! publishes cells under numbers, and judges sources by what was published last.
 ghost use Rattle.std.specs.Prelude.{◌≡◌, ◌^◌, ◌<◌, ◌≤◌, ◌↔◌, ℕ, List, [], ◌∷◌, ◌++◌, length, Option, Some, Err};
-ghost use Rattle.std.specs.Prelude.{IfOk, OnErr, OnOk, IsSome, true, false, slice_get, slice_set};
+ghost use Rattle.std.specs.Prelude.{IfOk, OnErr, OnOk, true, false, slice_get, slice_set};
 ghost use Rattle.urpf_base.specs.Faults.{CountsFault};
 ghost use Rattle.feed_io.specs.Events.{Event};
 ghost use Rattle.report_text.specs.Lines.{summary_line};
-ghost use Rattle.router_config.specs.Edits.{target};
-ghost use Rattle.router_config.specs.Kinds.{kind_in};
+ghost use Rattle.router_config.specs.Edits.{IsForConfigured};
 ghost use Rattle.router_config.specs.Settings.{Settings};
 ghost use Rattle.router_config.specs.declared.edits.Edit.{Edit};
 ghost use Rattle.rpf_plain.specs.Engine.{new_engine};
-ghost use Rattle.rpf_plain.specs.World.{IsConfigured, roles_of};
+ghost use Rattle.rpf_plain.specs.World.{roles_of};
 ghost use Rattle.session_fsm.specs.declared.items.Effect.{Effect};
-ghost use Rattle.control_core.specs.Controls.{ControlStandsFor, CountsOne, Edits, EditsRoles, IsOpened, IsVerdictNow};
-ghost use Rattle.control_core.specs.Controls.{KeepsKinds, KeepsPublished, Publishes, PublishesDifference, PullsOne};
-ghost use Rattle.control_core.specs.Controls.{goes_on, route_count};
+ghost use Rattle.control_core.specs.Controls.{ControlStandsFor, CountsOne, Edits, IsOpened, IsUnused, IsVerdictNow};
+ghost use Rattle.control_core.specs.Controls.{KeepsKinds, KeepsPublished, LoadsPairs, Publishes};
+ghost use Rattle.control_core.specs.Controls.{PublishesDifference, PullsOne, goes_on, route_count, without_pairs};
 ghost use Rattle.control_core.specs.History.{StandsFor};
 ghost use Rattle.control_core.specs.Judging.{JudgesBy};
 ghost use Rattle.control_core.specs.States.{PeerState};
-ghost use Rattle.control_core.specs.Worlds.{Course, last_number};
+ghost use Rattle.control_core.specs.Worlds.{Course, Opening, last_number};
+ghost use Rattle.control_core.specs.declared.limits.Limits.{Limits};
 
 use crate::control::Control;
 use crate::counted_engine::CountedEngine;
@@ -28,8 +28,10 @@ use crate::opening::{first_mark, peers_of};
 use crate::published::PublishedCells;
 use crate::publishing::publish_cells;
 use crate::pulling::{pull_one, wants_memory};
+use crate::set_edits::{add_pairs, edit_sets};
 use feed_io::Feed;
 use report_text::put_summary;
+use roa_irr::Pairs;
 use router_config::{Config, Edit};
 use rpf_plain::SetEngine;
 use std::alloc::Global;
@@ -47,7 +49,7 @@ impl<E: SetEngine> Control<E> {
         requires engine { E.state engine ≡ new_engine (roles_of config.interfaces) }
         requires items { limits.items ≤ ITEM_LIMIT }
         requires octets { limits.octets ≤ OCTET_LIMIT }
-        ensures { IfOk result (IsOpened config limits) }
+        ensures { IfOk result (IsOpened (without_pairs config) limits) }
     {
         let peers = peers_of(alloc, &config)?;
         let mut marks = Marks::new(alloc);
@@ -67,6 +69,27 @@ impl<E: SetEngine> Control<E> {
         })
     }
 
+    /// Adds the pairs of a table before anything else is done. Answers how many there are, each
+    /// counted once. It counts no edit.
+    pub fn load_pairs(&mut self, pairs: &Pairs) -> Result<u64, OutOfMemory>
+        requires { IsUnused self.old }
+        ensures ok { IfOk result (LoadsPairs pairs.now.pairs self.old self.new) }
+        ensures opened { OnOk result ((settings : Settings) (limits : Limits)
+            → IsOpened (without_pairs settings) limits self.old
+            → IsOpened (record { settings = settings; pairs = pairs.now.pairs }) limits self.new) }
+        ensures able { OnOk result ((self.old.exhausted ≡ false) × (self.new.exhausted ≡ false)) }
+        ensures err { OnErr result (self.new.exhausted ≡ true) }
+        ensures published { OnErr result (KeepsPublished self.old self.new) }
+        ensures kinds { OnErr result (KeepsKinds self.old self.new) }
+        ensures peers { OnErr result (self.new.peers ≡ self.old.peers) }
+    {
+        let Ok(()) = add_pairs(&mut self.sets, pairs) else {
+            self.exhausted = true;
+            return Err(OutOfMemory);
+        };
+        Ok(self.sets.pairs())
+    }
+
     /// Takes the next `count` items of a session, or all, and offers the line of each reset and that of
     /// the end to the sink. A pull after the end does nothing, and neither does one after want of
     /// memory. No other session changes, and no other feed is asked.
@@ -82,7 +105,7 @@ impl<E: SetEngine> Control<E> {
         ensures pull { self.old.exhausted ≡ false
             → PullsOne F.left session count self.old.limits feeds.old.items feeds.new.items
             (K.held out.old) (K.held out.new) result self.old.peers self.new.peers }
-        ensures stands { (opening : Settings) (edits : List Edit) (courses : List Course) (course : Course)
+        ensures stands { (opening : Opening) (edits : List Edit) (courses : List Course) (course : Course)
             (peer : PeerState) (gave : List Event) (more : List Effect)
             → ControlStandsFor opening edits courses self.old
             → slice_get courses session ≡ Some course → slice_get self.new.peers session ≡ Some peer
@@ -116,12 +139,13 @@ impl<E: SetEngine> Control<E> {
         result
     }
 
-    /// Gives an interface another role or mode. It counts as an edit also where it changes nothing.
+    /// Gives an interface another role or mode, or adds or removes a pair. It counts as an edit also
+    /// where it changes nothing.
     pub fn edit(&mut self, edit: &Edit) -> Result<(), OutOfMemory>
         requires few { self.old.edits < 2 ^ 32 }
-        requires configured { IsSome (kind_in self.old.kinds (target edit.now)) }
+        requires configured { IsForConfigured self.old.kinds edit.now }
         ensures ok { OnOk result (Edits edit.now self.old self.new) }
-        ensures stands { OnOk result ((opening : Settings) (edits : List Edit) (courses : List Course)
+        ensures stands { OnOk result ((opening : Opening) (edits : List Edit) (courses : List Course)
             → ControlStandsFor opening edits courses self.old
             → ControlStandsFor opening (edits ++ edit.now ∷ []) courses self.new) }
         ensures able { OnOk result ((self.old.exhausted ≡ false) × (self.new.exhausted ≡ false)) }
@@ -133,7 +157,7 @@ impl<E: SetEngine> Control<E> {
         if self.exhausted {
             return Err(OutOfMemory);
         }
-        let Ok(()) = edit_role(&mut self.sets, edit) else {
+        let Ok(()) = edit_sets(&mut self.sets, edit) else {
             self.exhausted = true;
             return Err(OutOfMemory);
         };
@@ -147,10 +171,10 @@ impl<E: SetEngine> Control<E> {
     pub fn publish(&mut self) -> Result<(u64, u64), OutOfMemory>
         requires { last_number self.old.marks < 2 ^ 32 }
         ensures ok { IfOk result (Publishes self.old self.new) }
-        ensures difference { (opening : Settings) (edits : List Edit) (courses : List Course)
+        ensures difference { (opening : Opening) (edits : List Edit) (courses : List Course)
             → ControlStandsFor opening edits courses self.old
             → IfOk result (PublishesDifference opening edits courses self.old self.new) }
-        ensures stands { OnOk result ((opening : Settings) (edits : List Edit) (courses : List Course)
+        ensures stands { OnOk result ((opening : Opening) (edits : List Edit) (courses : List Course)
             → ControlStandsFor opening edits courses self.old
             → ControlStandsFor opening edits courses self.new) }
         ensures able { OnOk result ((self.old.exhausted ≡ false) × (self.new.exhausted ≡ false)) }
@@ -195,32 +219,19 @@ impl<E: SetEngine> Control<E> {
     /// The verdict of the last publication on an address that comes in on this interface.
     pub fn judge(&self, iface: IfaceId, addr: &Addr) -> Verdict
         ensures cells { JudgesBy self.now.published iface addr.now result }
-        ensures sets { (opening : Settings) (edits : List Edit) (courses : List Course)
+        ensures sets { (opening : Opening) (edits : List Edit) (courses : List Course)
             (stands : ControlStandsFor opening edits courses self.now)
             → IsVerdictNow self.now stands.marked iface addr.now result }
     {
         self.published.judge(iface, addr)
     }
 
-    /// Appends the line of the routes that the sessions have now to an empty line. There are no pairs
-    /// yet.
+    /// Appends the line of the routes that the sessions have now, and of the pairs, to an empty line.
     pub fn put_summary(&self, to: &mut Line)
         requires { to.old ≡ [] }
-        ensures { to.new ≡ summary_line (route_count self.now.peers) 0 }
+        ensures { to.new ≡ summary_line (route_count self.now.peers)
+            (length self.now.engine.world.pairs) }
     {
-        put_summary(self.sets.rows(), 0, to);
-    }
-}
-
-/// Gives the interface of the edit its role. Nothing is changed where the edit names a mode, and where
-/// memory is refused.
-fn edit_role<E: SetEngine>(sets: &mut CountedEngine<E>, edit: &Edit) -> Result<(), OutOfMemory>
-    requires { IsConfigured sets.old.world.roles (target edit.now) }
-    ensures ok { OnOk result (EditsRoles edit.now sets.old sets.new) }
-    ensures err { OnErr result (sets.new ≡ sets.old) }
-{
-    match *edit {
-        Edit::Role(iface, role) => sets.set_role(iface, role),
-        Edit::Mode(_, _) => Ok(()),
+        put_summary(self.sets.rows(), self.sets.pairs(), to);
     }
 }

@@ -1,7 +1,8 @@
-//! An engine with the number of its rows, so that it is never asked to take more than it may have.
-ghost use Rattle.std.specs.Prelude.{◌≡◌, [], OnOk, OnErr, IfOk, length};
+//! An engine with the numbers of its rows and of its pairs, so that it is never asked to take more
+//! than it may have.
+ghost use Rattle.std.specs.Prelude.{◌≡◌, [], OnOk, OnErr, IfOk, Ok, true, false, length};
 ghost use Rattle.urpf_base.specs.Lists.{Has};
-ghost use Rattle.rpf_plain.specs.Engine.{AddsRow, RemovesRow, SetsRole, IsDrained};
+ghost use Rattle.rpf_plain.specs.Engine.{AddsPair, AddsRow, RemovesPair, RemovesRow, SetsRole, IsDrained};
 ghost use Rattle.rpf_plain.specs.Cells.{AreChanges};
 ghost use Rattle.rpf_plain.specs.Rows.{row_of};
 ghost use Rattle.rpf_plain.specs.World.{IsConfigured};
@@ -13,11 +14,15 @@ use urpf_base::{Changes, IfaceId, Origin, OutOfMemory, Prefix, Role};
 /// The most rows that an engine is given: one less than 2^40.
 const ROWS_MOST: u64 = 0xFF_FFFF_FFFF;
 
-/// An engine, and how many rows it has. Contracts see what they see of the engine.
+/// The most pairs that an engine is given: one less than 2^40.
+const PAIRS_MOST: u64 = 0xFF_FFFF_FFFF;
+
+/// An engine, and how many rows and pairs it has. Contracts see what they see of the engine.
 #[derive(Drop)]
 pub struct CountedEngine<E: SetEngine> {
     engine: E,
     rows: u64,
+    pairs: u64,
 }
 
 impl<E: SetEngine> Model for CountedEngine<E> {
@@ -32,16 +37,22 @@ impl<E: SetEngine> Model for CountedEngine<E> {
 
     ghost view = { λ c. E.state c.engine };
 
-    ghost invariant = { λ c. c.rows ≡ length (E.state c.engine).world.rows };
+    ghost invariant = { λ c. (c.rows ≡ length (E.state c.engine).world.rows)
+        × (c.pairs ≡ length (E.state c.engine).world.pairs) };
 }
 
 impl<E: SetEngine> CountedEngine<E> {
-    /// An engine that has no rows.
+    /// An engine that has no rows and no pairs.
     pub fn new(engine: E) -> CountedEngine<E>
-        requires { (E.state engine).world.rows ≡ [] }
+        requires rows { (E.state engine).world.rows ≡ [] }
+        requires pairs { (E.state engine).world.pairs ≡ [] }
         ensures { result ≡ E.state engine }
     {
-        CountedEngine { engine, rows: 0 }
+        CountedEngine {
+            engine,
+            rows: 0,
+            pairs: 0,
+        }
     }
 
     /// How many rows there are.
@@ -49,6 +60,13 @@ impl<E: SetEngine> CountedEngine<E> {
         ensures { result ≡ length self.now.world.rows }
     {
         self.rows
+    }
+
+    /// How many pairs there are.
+    pub fn pairs(&self) -> u64
+        ensures { result ≡ length self.now.world.pairs }
+    {
+        self.pairs
     }
 
     /// Adds one row. Where memory is refused, or there are 2^40 - 1 rows, nothing is changed.
@@ -86,6 +104,37 @@ impl<E: SetEngine> CountedEngine<E> {
         ensures err { OnErr result (self.new ≡ self.old) }
     {
         self.engine.set_role(iface, role)
+    }
+
+    /// Adds a pair. Whether it is new. Where memory is refused, or there are 2^40 - 1 pairs, nothing
+    /// is changed.
+    pub fn add_pair(&mut self, prefix: Prefix, asn: u32) -> Result<bool, OutOfMemory>
+        ensures added { result ≡ Ok true → AddsPair (prefix, asn) self.old self.new }
+        ensures there { result ≡ Ok false
+            → Has self.old.world.pairs (prefix, asn) × (self.new ≡ self.old) }
+        ensures err { OnErr result (self.new ≡ self.old) }
+    {
+        if self.pairs >= PAIRS_MOST {
+            return Err(OutOfMemory);
+        }
+        if !self.engine.add_pair(prefix, asn)? {
+            return Ok(false);
+        }
+        self.pairs += 1;
+        Ok(true)
+    }
+
+    /// Takes a pair away. Whether it was there. It takes no memory.
+    pub fn remove_pair(&mut self, prefix: &Prefix, asn: u32) -> bool
+        ensures removed { result ≡ true → RemovesPair (prefix.now, asn) self.old self.new }
+        ensures absent { result ≡ false
+            → (¬ Has self.old.world.pairs (prefix.now, asn)) × (self.new ≡ self.old) }
+    {
+        if !self.engine.remove_pair(prefix, asn) {
+            return false;
+        }
+        self.pairs -= 1;
+        true
     }
 
     /// The prefixes whose cell is another than at the last drain, each with its cell now.

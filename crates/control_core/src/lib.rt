@@ -5,7 +5,6 @@
 mod commands;
 mod control;
 mod counted_engine;
-mod drained;
 mod item_step;
 mod laws;
 mod limits;
@@ -19,6 +18,7 @@ mod pulling;
 mod reassembly;
 mod receive_buffer;
 mod row_updates;
+mod set_edits;
 mod table;
 
 pub use control::Control;

@@ -11,12 +11,13 @@ ghost use Rattle.prefix_map.specs.Keys.{FitsFamily};
 ghost use Rattle.rpf_plain.specs.Modes.{Says, defaults};
 ghost use Rattle.control_core.specs.Judging.{Absorbs, HasRoomFor, JudgesBy, SomeSays};
 
-use crate::drained::Drained;
 use prefix_map::PrefixMap;
 use router_config::Kinds;
 use std::alloc::Global;
 use std::marker::Model;
-use urpf_base::{Addr, Cell, CellChange, IfaceId, Kind, Mask, Mode, OutOfMemory, Prefix, Verdict};
+use urpf_base::{
+    Addr, Cell, CellChange, Changes, IfaceId, Kind, Mask, Mode, OutOfMemory, Prefix, Verdict,
+};
 
 /// The interfaces of a publication, each with its kind, and a cell for each prefix that is in a set.
 #[derive(Drop)]
@@ -50,7 +51,7 @@ impl PublishedCells {
     }
 
     /// Makes room for the changes. No cell is another then, also where memory is refused.
-    pub fn reserve(&mut self, changes: &Drained) -> Result<(), OutOfMemory>
+    pub fn reserve(&mut self, changes: &Changes) -> Result<(), OutOfMemory>
         ensures room { OnOk result (HasRoomFor changes.now self.new) }
         ensures kinds { self.new.kinds ≡ self.old.kinds }
         ensures cells { (p : Block) → cell_at self.new.cells p ≡ cell_at self.old.cells p }
@@ -59,7 +60,7 @@ impl PublishedCells {
     }
 
     /// Takes the changes and the interfaces over. It takes no memory.
-    pub fn absorb(&mut self, changes: &Drained, kinds: Kinds)
+    pub fn absorb(&mut self, changes: &Changes, kinds: Kinds)
         requires { HasRoomFor changes.now self.old }
         ensures kinds { self.new.kinds ≡ kinds }
         ensures cells { Absorbs changes.now self.old.cells self.new.cells }

@@ -6,7 +6,6 @@ ghost use Rattle.control_core.specs.Controls.{PublishesParts};
 ghost use Rattle.control_core.specs.Worlds.{last_number};
 
 use crate::counted_engine::CountedEngine;
-use crate::drained::Drained;
 use crate::marks::{Mark, Marks};
 use crate::peering::Peering;
 use crate::published::PublishedCells;
@@ -39,7 +38,7 @@ pub fn publish_cells<E: SetEngine>(
     let number = marks.last_number() + 1;
     let mark = Mark::new(number, edits, items_of(alloc, peers)?);
     let kinds = kinds.copied()?;
-    let changes = Drained::new(sets.drain_changes()?);
+    let changes = sets.drain_changes()?;
     published.reserve(&changes)?;
     marks.push(mark)?;
     published.absorb(&changes, kinds);

@@ -86,6 +86,7 @@ pub fn pull_one<E: SetEngine, F: Feed, K: Sink>(
         (K.faults out.old) (K.faults out.new) }
     ensures kept { (kinds : List (ℕ × Kind)) → IsKept (map peer_of peers.old.items) kinds sets.old limits.now
         → IsKept (map peer_of peers.new.items) kinds sets.new limits.now }
+    ensures pairs { sets.new.world.pairs ≡ sets.old.world.pairs }
     ensures base { sets.new.base ≡ sets.old.base }
 {
     let place = session as usize;

@@ -4,7 +4,8 @@ use Rattle.urpf_base.specs.declared.sessions.SessionConfig.{SessionConfig}
 use Rattle.control_core.specs.Openings.{AreNew}
 use Rattle.control_core.specs.Peers.{peer_of}
 use Rattle.control_core.specs.States.{PeerState}
-use Rattle.control_core.proofs.Opened.{new_push, no_pairs, take_next}
+use Rattle.control_core.proofs.Opened.{new_push, no_pairs}
+use Rattle.control_core.proofs.Places.{take_next}
 use Rattle.control_core.proofs.opening.peers_of.Goals as goal
 
 pub loop-number-preserved : goal.loop-number-preserved

@@ -1,29 +1,26 @@
-use Rattle.std.proofs.Common.{◌+◌, IsSome, map, refl, sym, subst}
-use Rattle.router_config.specs.Edits.{target}
-use Rattle.router_config.specs.Kinds.{kind_in}
-use Rattle.rpf_plain.proofs.Listed.{configured}
-use Rattle.rpf_plain.specs.World.{IsConfigured, Roles}
+use Rattle.std.proofs.Common.{◌+◌, map, refl, sym, subst}
+use Rattle.router_config.specs.Edits.{IsForConfigured}
 use Rattle.control_core.specs.Controls.{ControlStandsFor}
 use Rattle.control_core.specs.Kept.{IsKept}
 use Rattle.control_core.specs.Peers.{peer_of}
 use Rattle.control_core.specs.States.{ControlState}
-use Rattle.control_core.proofs.Edited.{kept_edited}
+use Rattle.control_core.proofs.Edited.{kept_edited, role_there}
 use Rattle.control_core.proofs.Standing.{stands_edited}
 use Rattle.control_core.proofs.control.Control.edit.Goals as goal
 
-pub edit_role-requires : goal.edit_role-requires
-edit_role-requires g c =
+pub edit_sets-requires : goal.edit_sets-requires
+edit_sets-requires g c =
     let inside = c.self.inside in
-    let to = target c.args.edit.now in
-    let there : IsSome (kind_in inside.kinds to) = subst (λ (s : ControlState). IsSome (kind_in s.kinds to))
-    (sym c.self.view_is) c.requires.configured in
-    subst (λ (rs : Roles). IsConfigured rs to) (sym c.self.invariant.roles) ((configured inside.kinds to).1 there)
+    let there : IsForConfigured inside.kinds c.args.edit.now =
+    subst (λ (s : ControlState). IsForConfigured s.kinds c.args.edit.now) (sym c.self.view_is) c.requires.configured in
+    λ iface role is.
+    role_there c.args.edit.now inside.kinds inside.sets.world.roles iface role c.self.invariant.roles there is
 
 pub invariant_of-self-2 : goal.invariant_of-self-2
 invariant_of-self-2 g c =
     let inside = c.self.inside in
-    subst (λ ks. IsKept (map peer_of inside.peers.items) ks c.edit_role.new.sets inside.limits) (sym c.apply.ensures)
-    (kept_edited (map peer_of inside.peers.items) inside.kinds c.args.edit.now inside.sets c.edit_role.new.sets
+    subst (λ ks. IsKept (map peer_of inside.peers.items) ks c.edit_sets.new.sets inside.limits) (sym c.apply.ensures)
+    (kept_edited (map peer_of inside.peers.items) inside.kinds c.args.edit.now inside.sets c.edit_sets.new.sets
     inside.limits c.self.invariant c.in-Ok.ensures.ok)
 
 pub returns-clause-stands : goal.returns-clause-stands
@@ -43,15 +40,15 @@ returns-clause-stands g c opening edits courses stands =
       peers = map peer_of inside.peers.items;
       kinds = c.apply.new.self;
       edits = inside.edits + 1;
-      engine = c.edit_role.new.sets;
+      engine = c.edit_sets.new.sets;
       marks = inside.marks;
       published = inside.published;
       limits = inside.limits;
       exhausted = inside.exhausted;
     } in
     let kept : IsKept new.peers new.kinds new.engine new.limits =
-    subst (λ ks. IsKept (map peer_of inside.peers.items) ks c.edit_role.new.sets inside.limits) (sym c.apply.ensures)
-    (kept_edited (map peer_of inside.peers.items) inside.kinds c.args.edit.now inside.sets c.edit_role.new.sets
+    subst (λ ks. IsKept (map peer_of inside.peers.items) ks c.edit_sets.new.sets inside.limits) (sym c.apply.ensures)
+    (kept_edited (map peer_of inside.peers.items) inside.kinds c.args.edit.now inside.sets c.edit_sets.new.sets
     inside.limits c.self.invariant c.in-Ok.ensures.ok) in
     stands_edited opening edits courses c.args.edit.now old new
     (subst (λ (s : ControlState). ControlStandsFor opening edits courses s) (sym c.self.view_is) stands)
@@ -61,6 +58,7 @@ returns-clause-stands g c opening edits courses stands =
       peers = refl;
       marks = refl;
       published = refl;
+      pairs = c.in-Ok.ensures.ok.pairs;
       base = c.in-Ok.ensures.ok.base;
     })
     kept

@@ -1,13 +1,16 @@
 use Rattle.std.proofs.Common.{◌≡◌, ℕ, false, List, [], ◌∷◌, ◌++◌, map, refl, sym, ap, subst, ◌∙◌}
-use Rattle.rpf_plain.specs.Engine.{new_engine}
+use Rattle.origin_pairs.specs.Pairs.{IsPairSet}
+use Rattle.rpf_plain.specs.Cells.{cell_at}
+use Rattle.rpf_plain.specs.Engine.{EngineState, new_engine}
 use Rattle.rpf_plain.specs.World.{roles_of}
-use Rattle.control_core.specs.Controls.{first_mark}
+use Rattle.control_core.specs.Controls.{first_mark, without_pairs}
 use Rattle.control_core.specs.Kept.{IsKept}
 use Rattle.control_core.specs.Openings.{zeros}
 use Rattle.control_core.specs.Peers.{peer_of}
 use Rattle.control_core.specs.States.{ControlState}
 use Rattle.control_core.specs.Worlds.{Position}
 use Rattle.control_core.proofs.Opened.{kept_new, opened, zeros_are}
+use Rattle.control_core.proofs.PairEdits.{own_set}
 use Rattle.control_core.proofs.control.Control.new.Goals as goal
 
 pub invariant_of-result : goal.invariant_of-result
@@ -40,8 +43,11 @@ returns g c =
     ∙ ap (λ (ms : List Position). ms ++ c.in_ok-first_mark.field-0 ∷ []) c.new-marks.ensures
     ∙ ap (λ (m : Position). m ∷ []) (c.in_ok-first_mark.ensures ∙ ap mark none) in
     let engine : c.new.result ≡ new_engine (roles_of interfaces) = c.new.ensures ∙ c.requires.engine in
-    opened c.args.config c.args.limits control c.in_ok-peers.ensures c.in_ok-kinds.ensures.value refl engine marks
-    (c.new-published.ensures.kinds ∙ c.in_ok-kinds-2.ensures.value) c.new-published.ensures.cells refl refl
+    opened (without_pairs c.args.config) c.args.limits control c.in_ok-peers.ensures.stand c.in_ok-peers.ensures.unmet
+    c.in_ok-kinds.ensures.value refl (ap (λ (e : EngineState). e.base) engine)
+    (subst (λ (e : EngineState). IsPairSet [] e.world.pairs) (sym engine) (own_set [] tt)) marks
+    (c.new-published.ensures.kinds ∙ c.in_ok-kinds-2.ensures.value)
+    (λ p. ap (λ t. cell_at t p) c.new-published.ensures.cells) refl refl
     (subst (λ ks. IsKept control.peers ks c.new.result c.args.limits) (sym c.in_ok-kinds.ensures.value)
     (kept_new interfaces sessions control.peers c.new.result c.args.limits c.in_ok-peers.ensures engine
     c.requires.items))

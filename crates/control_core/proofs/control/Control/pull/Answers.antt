@@ -29,5 +29,12 @@ returns-clause-stands g c = λ opening edits courses course peer gave more stand
     stands_by_pull opening edits courses course peer gave more _ _
     (subst (λ (v : ControlState). ControlStandsFor opening edits courses v) (sym c.self.view_is) stands)
     c.pull_one-result.ensures.pull
-    (record { kinds = refl; edits = refl; marks = refl; published = refl; base = c.pull_one-result.ensures.base })
+    (record {
+      kinds = refl;
+      edits = refl;
+      marks = refl;
+      published = refl;
+      pairs = c.pull_one-result.ensures.pairs;
+      base = c.pull_one-result.ensures.base;
+    })
     (c.pull_one-result.ensures.kept c.self.inside.kinds c.self.invariant) got there later

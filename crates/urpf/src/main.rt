@@ -11,7 +11,7 @@ use std::rt::{Env, Files};
 use std::{env, io};
 use urpf_base::{Line, OutOfMemory, write_all};
 use urpf_cli::{
-    Command, Status, check_one, exit_code, feed_names, offline, put_status, read_command,
+    Command, PairsWord, Status, check_one, exit_code, feed_names, offline, put_status, read_command,
 };
 
 fn main(rt: HostRuntime) -> ExitCode {
@@ -28,7 +28,14 @@ fn run<R: AllocGlobal + Env + Files + Print>(rt: &R) -> Status {
     };
     match read_command(&words) {
         Some(Command::Check { session, .. }) => check(rt, &words, session),
-        Some(Command::Offline { config, book, .. }) => run_book(rt, &words, config, book),
+        Some(
+            Command::Offline {
+                config,
+                book,
+                pairs,
+                ..
+            },
+        ) => run_book(rt, &words, config, book, table_name(pairs)),
         // No file is named then, and `check_one` refuses the words.
         None => check(rt, &words, ""),
     }
@@ -45,12 +52,22 @@ fn check<R: AllocGlobal + Files + Print>(rt: &R, words: &[String], session: &str
     )
 }
 
+/// The name of the table of pairs. It is empty where there is none: then `offline` does not read it,
+/// and so no file is opened.
+fn table_name(pairs: PairsWord<'_>) -> &str {
+    match pairs {
+        PairsWord::Table { name, .. } => name,
+        PairsWord::None => "",
+    }
+}
+
 /// `offline` over the files of these names, and the traces that the words name.
 fn run_book<'a, R: AllocGlobal + Files + Print>(
     rt: &'a R,
     words: &'a [String],
     config: &'a str,
     book: &'a str,
+    pairs: &'a str,
 ) -> Status {
     let mut feeds = match trace_feeds(rt, feed_names(words).sessions) {
         Ok(feeds) => feeds,
@@ -58,12 +75,14 @@ fn run_book<'a, R: AllocGlobal + Files + Print>(
     };
     let mut config = FileSource::new(rt, config);
     let mut book = FileSource::new(rt, book);
+    let mut pairs = FileSource::new(rt, pairs);
     let mut out = OutSink::new(io::writer(rt));
     offline(
         rt.alloc(),
         words,
         &mut config,
         &mut book,
+        &mut pairs,
         &mut feeds,
         &mut out,
     )

@@ -1,14 +1,14 @@
 -- The text of a run, out of its head, its steps and its closing line.
-use Rattle.std.proofs.Common.{◌≡◌, ℕ, ◌≤◌, List, [], ◌++◌, length, map, take, drop, Option, Result, Ok, Err}
-use Rattle.std.proofs.Common.{ap, sym, subst, ◌∙◌, append_assoc}
+use Rattle.std.proofs.Common.{◌≡◌, ℕ, ◌≤◌, List, ◌++◌, length, map, take, drop, Option, Result, Ok, Err}
+use Rattle.std.proofs.Common.{ap, refl, sym, subst, ◌∙◌, append_assoc}
 use Rattle.std.specs.Prelude.{OnErr, OnOk, IfErr}
 use Rattle.std.specs.List.{concat}
 use Rattle.std.specs.Io.KnownBytes.{Appends}
-use Rattle.std.proofs.lemmas.List.{take-append-drop, append-nil}
+use Rattle.std.proofs.lemmas.List.{take-append-drop}
 use Rattle.urpf_base.proofs.Growth.{Appends-append}
 use Rattle.feed_io.specs.Events.{Event}
 use Rattle.report_text.specs.Lines.{done_line, publish_line, run_line}
-use Rattle.router_config.specs.Settings.{Settings}
+use Rattle.urpf_base.specs.declared.sessions.SessionConfig.{SessionConfig}
 use Rattle.runbook.specs.declared.lines.BookLine.{BookLine}
 use Rattle.control_core.specs.States.{ControlState}
 use Rattle.control_core.specs.Worlds.{last_number}
@@ -16,34 +16,26 @@ use Rattle.control_core.specs.declared.limits.RunFault.{RunFault}
 use Rattle.control_core.specs.declared.limits.RunFault.TheVariants.{WriteFault}
 use Rattle.urpf_cli.specs.Inputs.{Run}
 use Rattle.urpf_cli.specs.Places.{opening}
-use Rattle.urpf_cli.specs.RunText.{IsRunText, head_text, last_place, steps_for}
+use Rattle.urpf_cli.specs.RunText.{AreTotals, IsHead, IsRunText, head_text, last_place, steps_for}
 use Rattle.urpf_cli.specs.Runs.{AreTexts, RanBook, RanSteps, StopsAtLimit, TookAll, TookFront}
 use Rattle.urpf_cli.proofs.Limiting.{none_filled, steps_limited}
-use Rattle.urpf_cli.proofs.SomeText.{some_text}
+use Rattle.urpf_cli.specs.declared.run.Totals.{Totals}
+use Rattle.urpf_cli.proofs.SomeText.{some_text, text_with}
 use Rattle.urpf_cli.proofs.WorldsOf.{number_at}
 use Rattle.urpf_cli.proofs.Written.{front_none}
 
 -- the head of a run, cut short
-pub head_front : (run : Run) (lines : List BookLine) (old new : Option (List ℕ))
-    → TookFront (λ text. text ≡ head_text run.config) old new → TookFront (IsRunText run lines) old new
-head_front run lines old new took =
-    let all = some_text run lines in
-    let rest : List ℕ = concat all.1.texts ++ done_line (last_place run lines).mark.number 0 in
+pub head_front : (run : Run) (lines : List BookLine) (head : List ℕ) (old new : Option (List ℕ)) → IsHead run head
+    → TookFront (λ text. text ≡ head) old new → TookFront (IsRunText run lines) old new
+head_front run lines head old new is took =
+    let (rest, whole) = text_with run lines head is in
     record {
       front = took.front;
       more = took.more ++ rest;
-      is = record {
-        texts = all.1.texts;
-        given = all.1.given;
-        parts = sym (append_assoc took.front took.more rest) ∙ ap (λ t. t ++ rest) took.is;
-      };
+      is = subst (IsRunText run lines)
+          (ap (λ t. t ++ rest) (sym took.is) ∙ append_assoc took.front took.more rest) whole;
       appended = took.appended;
     }
-
-pub head_whole : (config : Settings) (old new : Option (List ℕ)) → Appends old new (head_text config)
-    → TookFront (λ text. text ≡ head_text config) old new
-head_whole config old new appended =
-    record { front = head_text config; more = []; is = append-nil (head_text config); appended = appended }
 
 -- nothing of a run
 pub run_none : (run : Run) (lines : List BookLine) (held : Option (List ℕ)) → TookFront (IsRunText run lines) held held
@@ -51,82 +43,86 @@ run_none run lines held =
     let all = some_text run lines in front_none (IsRunText run lines) all.0 held all.1
 
 -- the head, and steps that were cut short
-pub steps_front : (run : Run) (lines : List BookLine) (old mid new : Option (List ℕ))
-    → Appends old mid (head_text run.config)
+pub steps_front : (run : Run) (lines : List BookLine) (head : List ℕ) (old mid new : Option (List ℕ))
+    → IsHead run head → Appends old mid head
     → TookFront (AreTexts run (opening run.config.sessions) (steps_for run lines)) mid new
     → TookFront (IsRunText run lines) old new
-steps_front run lines old mid new opened took =
+steps_front run lines head old mid new is_head opened took =
     let closing : List ℕ = done_line (last_place run lines).mark.number 0 in
     record {
-      front = head_text run.config ++ took.front;
+      front = head ++ took.front;
       more = took.more ++ closing;
       is = record {
+        head = head;
+        is_head = is_head;
         texts = took.is.0;
         given = took.is.1;
-        parts = append_assoc (head_text run.config) took.front (took.more ++ closing)
-            ∙ ap (λ t. head_text run.config ++ t)
+        parts = append_assoc head took.front (took.more ++ closing)
+            ∙ ap (λ t. head ++ t)
             (sym (append_assoc took.front took.more closing) ∙ ap (λ t. t ++ closing) took.is.2);
       };
-      appended = Appends-append old mid new (head_text run.config) took.front opened took.appended;
+      appended = Appends-append old mid new head took.front opened took.appended;
     }
 
 -- the head and all steps, and a closing line that was offered
 closing_wrote : (run : Run) (lines : List BookLine) (number : ℕ) (text : List ℕ)
-    (old head mid new : Option (List ℕ)) → Appends old head (head_text run.config)
-    → TookAll (AreTexts run (opening run.config.sessions) (steps_for run lines)) head mid
+    (head : List ℕ) (old first mid new : Option (List ℕ)) → IsHead run head → Appends old first head
+    → TookAll (AreTexts run (opening run.config.sessions) (steps_for run lines)) first mid
     → text ≡ done_line number 0 → number ≡ (last_place run lines).mark.number → Appends mid new text
     → TookAll (IsRunText run lines) old new
-closing_wrote run lines number text old head mid new opened took same is wrote = record {
-  text = head_text run.config ++ (took.text ++ text);
+closing_wrote run lines number text head old first mid new is_head opened took same is wrote = record {
+  text = head ++ (took.text ++ text);
   is = record {
+    head = head;
+    is_head = is_head;
     texts = took.is.0;
     given = took.is.1;
-    parts = ap (λ t. head_text run.config ++ t)
+    parts = ap (λ t. head ++ t)
         (ap (λ t. t ++ text) took.is.2 ∙ ap (λ t. concat took.is.0 ++ t) (same ∙ ap (λ n. done_line n 0) is));
   };
   appended =
-      Appends-append old head new (head_text run.config) (took.text ++ text) opened
-      (Appends-append head mid new took.text text took.appended wrote);
+      Appends-append old first new head (took.text ++ text) opened
+      (Appends-append first mid new took.text text took.appended wrote);
 }
 
 closing_front : (run : Run) (lines : List BookLine) (number : ℕ) (text : List ℕ) (n : ℕ)
-    (old head mid new : Option (List ℕ)) → Appends old head (head_text run.config)
-    → TookAll (AreTexts run (opening run.config.sessions) (steps_for run lines)) head mid
+    (head : List ℕ) (old first mid new : Option (List ℕ)) → IsHead run head → Appends old first head
+    → TookAll (AreTexts run (opening run.config.sessions) (steps_for run lines)) first mid
     → text ≡ done_line number 0 → number ≡ (last_place run lines).mark.number → Appends mid new (take n text)
     → TookFront (IsRunText run lines) old new
-closing_front run lines number text n old head mid new opened took same is wrote =
+closing_front run lines number text n head old first mid new is_head opened took same is wrote =
     let closing : List ℕ = done_line (last_place run lines).mark.number 0 in
     let whole : text ≡ closing = same ∙ ap (λ n. done_line n 0) is in
     let front : List ℕ = took.text ++ take n text in
     record {
-      front = head_text run.config ++ front;
+      front = head ++ front;
       more = drop n text;
       is = record {
+        head = head;
+        is_head = is_head;
         texts = took.is.0;
         given = took.is.1;
-        parts = append_assoc (head_text run.config) front (drop n text)
-            ∙ ap (λ t. head_text run.config ++ t)
+        parts = append_assoc head front (drop n text)
+            ∙ ap (λ t. head ++ t)
             (append_assoc took.text (take n text) (drop n text)
             ∙ ap (λ t. took.text ++ t) (take-append-drop n text ∙ whole) ∙ ap (λ t. t ++ closing) took.is.2);
       };
       appended =
-          Appends-append old head new (head_text run.config) front opened
-          (Appends-append head mid new took.text (take n text) took.appended wrote);
+          Appends-append old first new head front opened
+          (Appends-append first mid new took.text (take n text) took.appended wrote);
     }
 
--- the head, which two writes took
-pub head_written : {E : Type 0} (config : Settings) (r : Result (Unit {0}) E) (first second : List ℕ)
-    (old mid new : Option (List ℕ)) → head_text config ≡ first ++ second → Appends old mid first
-    → OnOk r (Appends mid new second) → OnOk r (Appends old new (head_text config))
-head_written config (Err e) first second old mid new parts one two = tt
-head_written config (Ok u) first second old mid new parts one two =
+-- a head in two parts, which two writes took
+pub head_written : {E : Type 0} (r : Result (Unit {0}) E) (head first second : List ℕ) (old mid new : Option (List ℕ))
+    → head ≡ first ++ second → Appends old mid first → OnOk r (Appends mid new second) → OnOk r (Appends old new head)
+head_written (Err e) head first second old mid new parts one two = tt
+head_written (Ok u) head first second old mid new parts one two =
     rw parts (Appends-append old mid new first second one two)
 
--- the head, of which the first write failed
-pub head_cut_first : (config : Settings) (first second : List ℕ) (old new : Option (List ℕ))
-    → head_text config ≡ first ++ second → (n : ℕ) × (n ≤ length first) × Appends old new (take n first)
-    → TookFront (λ text. text ≡ head_text config) old new
-head_cut_first config first second old new parts cut = record {
+-- the same, where the first write failed
+pub head_cut_first : (head first second : List ℕ) (old new : Option (List ℕ)) → head ≡ first ++ second
+    → (n : ℕ) × (n ≤ length first) × Appends old new (take n first) → TookFront (λ text. text ≡ head) old new
+head_cut_first head first second old new parts cut = record {
   front = take cut.0 first;
   more = drop cut.0 first ++ second;
   is = sym
@@ -135,13 +131,13 @@ head_cut_first config first second old new parts cut = record {
   appended = cut.2;
 }
 
--- the head, of which the second write failed
-pub head_cut_second : {E : Type 0} (config : Settings) (r : Result (Unit {0}) E) (first second : List ℕ)
-    (old mid new : Option (List ℕ)) → head_text config ≡ first ++ second → Appends old mid first
+-- the same, where the second write failed
+pub head_cut_second : {E : Type 0} (r : Result (Unit {0}) E) (head first second : List ℕ)
+    (old mid new : Option (List ℕ)) → head ≡ first ++ second → Appends old mid first
     → OnErr r ((n : ℕ) × (n ≤ length second) × Appends mid new (take n second))
-    → OnErr r (TookFront (λ text. text ≡ head_text config) old new)
-head_cut_second config (Ok u) first second old mid new parts one cut = tt
-head_cut_second config (Err e) first second old mid new parts one cut = record {
+    → OnErr r (TookFront (λ text. text ≡ head) old new)
+head_cut_second (Ok u) head first second old mid new parts one cut = tt
+head_cut_second (Err e) head first second old mid new parts one cut = record {
   front = first ++ take cut.0 second;
   more = drop cut.0 second;
   is = sym
@@ -150,24 +146,27 @@ head_cut_second config (Err e) first second old mid new parts one cut = record {
   appended = Appends-append old mid new first (take cut.0 second) one cut.2;
 }
 
--- the two lines of the head
-pub head_parts : (config : Settings) (interfaces sessions : ℕ) (first second : List ℕ)
-    → interfaces ≡ length config.interfaces → sessions ≡ length config.sessions
-    → first ≡ run_line interfaces sessions 0 0 → second ≡ publish_line 0 0 0 (map (λ s. 0) config.sessions)
-    → head_text config ≡ first ++ second
-head_parts config interfaces sessions first second many most is_first is_second =
-    sym (ap (λ t. t ++ second) is_first ∙ ap (λ t. run_line interfaces sessions 0 0 ++ t) is_second
-    ∙ ap (λ n. run_line n sessions 0 0 ++ publish_line 0 0 0 (map (λ s. 0) config.sessions)) many
-    ∙ ap (λ n. run_line (length config.interfaces) n 0 0 ++ publish_line 0 0 0 (map (λ s. 0) config.sessions)) most)
+-- the two lines of a head
+pub head_parts : (totals : Totals) (sessions : List SessionConfig) (first second : List ℕ)
+    → first ≡ run_line totals.interfaces totals.sessions totals.pairs totals.skipped
+    → second ≡ publish_line 0 0 0 (map (λ s. 0) sessions) → head_text totals sessions ≡ first ++ second
+head_parts totals sessions first second is_first is_second =
+    sym (ap (λ t. t ++ second) is_first
+    ∙ ap (λ t. run_line totals.interfaces totals.sessions totals.pairs totals.skipped ++ t) is_second)
+
+-- how much a run begins with makes its head
+pub head_of : (run : Run) (totals : Totals) → AreTotals run.config run.table totals
+    → IsHead run (head_text totals run.config.sessions)
+head_of run totals are = record { totals = totals; are = are; same = refl }
 
 -- the head, and steps that stopped
 pub book_stopped : (run : Run) (lines : List BookLine) (fault : RunFault) (control : ControlState) (rounds : ℕ)
-    (lefts : List (Option (List Event))) (old head new : Option (List ℕ))
-    → length run.config.sessions ≡ length run.inputs → Appends old head (head_text run.config)
-    → RanSteps run (opening run.config.sessions) (steps_for run lines) (Err fault) control rounds lefts head new
+    (lefts : List (Option (List Event))) (head : List ℕ) (old first new : Option (List ℕ)) → IsHead run head
+    → length run.config.sessions ≡ length run.inputs → Appends old first head
+    → RanSteps run (opening run.config.sessions) (steps_for run lines) (Err fault) control rounds lefts first new
     → RanBook run lines (Err fault) lefts old new
-book_stopped run lines fault control rounds lefts old head new many opened ran = (
-  steps_front run lines old head new opened ran.0,
+book_stopped run lines fault control rounds lefts head old first new is_head many opened ran = (
+  steps_front run lines head old first new is_head opened ran.0,
   steps_limited run run.config.sessions (steps_for run lines) lefts fault many ran.1,
 )
 
@@ -179,19 +178,21 @@ write_stops run lines lefts fault is =
 
 -- the head, all steps, and a closing line that was offered
 pub book_ran : (run : Run) (lines : List BookLine) (number : ℕ) (text : List ℕ) (result : Result (Unit {0}) RunFault)
-    (control : ControlState) (rounds : ℕ) (lefts : List (Option (List Event))) (old head mid new : Option (List ℕ))
-    → Appends old head (head_text run.config)
-    → RanSteps run (opening run.config.sessions) (steps_for run lines) (Ok tt) control rounds lefts head mid
+    (control : ControlState) (rounds : ℕ) (lefts : List (Option (List Event))) (head : List ℕ)
+    (old first mid new : Option (List ℕ)) → IsHead run head → Appends old first head
+    → RanSteps run (opening run.config.sessions) (steps_for run lines) (Ok tt) control rounds lefts first mid
     → text ≡ done_line number 0 → number ≡ last_number control.marks → OnOk result (Appends mid new text)
     → OnErr result ((n : ℕ) × (n ≤ length text) × Appends mid new (take n text))
     → IfErr result (λ fault. fault ≡ WriteFault) → RanBook run lines result lefts old new
-book_ran run lines number text (Ok done) control rounds lefts old head mid new opened ran same is ok cut err = (
-  closing_wrote run lines number text old head mid new opened ran.0 same
-      (is ∙ number_at run (last_place run lines) control rounds lefts ran.1) ok,
-  none_filled run (steps_for run lines) control rounds lefts ran.1,
-)
-book_ran run lines number text (Err fault) control rounds lefts old head mid new opened ran same is ok cut err = (
-  closing_front run lines number text cut.0 old head mid new opened ran.0 same
-      (is ∙ number_at run (last_place run lines) control rounds lefts ran.1) cut.2,
-  write_stops run lines lefts fault err,
-)
+book_ran run lines number text (Ok done) control rounds lefts head old first mid new is_head opened ran same is
+    ok cut err = (
+      closing_wrote run lines number text head old first mid new is_head opened ran.0 same
+          (is ∙ number_at run (last_place run lines) control rounds lefts ran.1) ok,
+      none_filled run (steps_for run lines) control rounds lefts ran.1,
+    )
+book_ran run lines number text (Err fault) control rounds lefts head old first mid new is_head opened ran same is
+    ok cut err = (
+      closing_front run lines number text cut.0 head old first mid new is_head opened ran.0 same
+          (is ∙ number_at run (last_place run lines) control rounds lefts ran.1) cut.2,
+      write_stops run lines lefts fault err,
+    )

@@ -4,6 +4,7 @@ use Rattle.std.proofs.Common.{subst, ◌∙◌, inl, inr, arith}
 use Rattle.std.specs.Prelude.{IfErr}
 use Rattle.std.proofs.lemmas.List.{length-map}
 use Rattle.feed_io.specs.Events.{Event}
+use Rattle.roa_irr.specs.Tables.{Table}
 use Rattle.router_config.specs.Settings.{Settings}
 use Rattle.runbook.specs.declared.lines.BookLine.{BookLine}
 use Rattle.control_core.specs.declared.limits.RunFault.{RunFault}
@@ -106,19 +107,20 @@ as_many_told left feeds events told =
     sym (length-map events (λ (es : List Event). Some es)) ∙ ap length (sym told) ∙ length-map feeds left
 
 -- a run that reads what the feeds tell
-pub record Begun (settings : Settings) (events : List (List Event)) (lefts : List (Option (List Event))) : Type 0 where
+pub record Begun (settings : Settings) (table : Option Table) (events : List (List Event)) (lefts : List (Option (List Event))) : Type 0 where
   pub run : Run
-  pub reads : Reads run settings events
+  pub reads : Reads run settings table events
   pub told : lefts ≡ told_by run
 
-pub begun : (settings : Settings) (events : List (List Event)) (lefts : List (Option (List Event)))
+pub begun : (settings : Settings) (table : Option Table) (events : List (List Event))
+    (lefts : List (Option (List Event)))
     → length events ≡ length settings.sessions → lefts ≡ map (λ (es : List Event). Some es) events
-    → Begun settings events lefts
-begun settings events lefts many told =
+    → Begun settings table events lefts
+begun settings table events lefts many told =
     let inputs = some_inputs settings.sessions events many in
     record {
-      run = record { config = settings; inputs = inputs.0 };
-      reads = record { configured = refl; told = inputs.2; is = inputs.1 };
+      run = record { config = settings; table = table; inputs = inputs.0 };
+      reads = record { configured = refl; tabled = refl; told = inputs.2; is = inputs.1 };
       told = told
           ∙ ap (map (λ (es : List Event). Some es)) (sym inputs.2) ∙ sym (told_map inputs.0);
     }

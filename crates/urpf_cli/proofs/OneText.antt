@@ -1,5 +1,6 @@
 -- Runs that are alike have one text.
-use Rattle.std.proofs.Common.{◌≡◌, ◌↔◌, ℕ, ◌+◌, List, [], ◌∷◌, ◌++◌, length, take, Some, refl, ap, sym, subst, ◌∙◌}
+use Rattle.std.proofs.Common.{◌≡◌, ◌↔◌, ℕ, ◌+◌, List, [], ◌∷◌, ◌++◌, length, take, Option, Some, refl, ap, sym, subst}
+use Rattle.std.proofs.Common.{◌∙◌}
 use Rattle.std.specs.List.{AllZip, concat}
 use Rattle.urpf_base.specs.Address.{Block}
 use Rattle.urpf_base.specs.declared.address.Addr.{Addr}
@@ -9,17 +10,24 @@ use Rattle.urpf_base.specs.declared.kinds.Kind.{Kind}
 use Rattle.router_config.specs.Settings.{Settings}
 use Rattle.rpf_plain.specs.Cells.{IsCell, IsDifference}
 use Rattle.rpf_plain.specs.Modes.{IsVerdict}
-use Rattle.rpf_plain.specs.World.{Pair, World}
+use Rattle.origin_pairs.specs.Pairs.{IsPairSet}
+use Rattle.origin_pairs.proofs.Sets.{sets_equally_long}
+use Rattle.roa_irr.specs.Tables.{Table}
+use Rattle.rpf_plain.specs.World.{World}
 use Rattle.rpf_plain.proofs.Differing.{one_difference}
 use Rattle.rpf_plain.proofs.Verdicts.{one_verdict, same_verdict}
 use Rattle.runbook.specs.declared.lines.BookLine.{BookLine}
 use Rattle.report_text.specs.Lines.{check_line, done_line, publish_line, summary_line}
 use Rattle.session_fsm.specs.declared.items.Effect.{Effect}
 use Rattle.control_core.specs.Effects.{HoldsSoMany}
+use Rattle.control_core.specs.Worlds.{pairs_after}
 use Rattle.control_core.proofs.RunLaws.{one_count}
 use Rattle.urpf_cli.specs.Inputs.{Input, Run}
+use Rattle.urpf_cli.specs.PairTables.{pairs_in, skipped_in}
 use Rattle.urpf_cli.specs.Places.{Place, Reached, items_at, mark_at, next_place, opening, place_after, reached_at}
-use Rattle.urpf_cli.specs.RunText.{CheckGives, GiveAll, Gives, IsRunText, LeaveRoutes, PublishGives, head_text}
+use Rattle.urpf_cli.specs.RunText.{AreTotals, CheckGives, GiveAll, Gives, IsHead, IsRunText, LeaveRoutes}
+use Rattle.urpf_cli.specs.RunText.{PublishGives, head_text}
+use Rattle.urpf_cli.specs.declared.run.Totals.{Totals}
 use Rattle.urpf_cli.specs.Steps.{Step, pull, publish, round, check, change, summary, steps_of}
 use Rattle.urpf_cli.proofs.SameRuns.{AreAlike, RunsAlike, after_alike, next_alike, pull_alike, same_cells, same_kinds}
 use Rattle.urpf_cli.proofs.SameRuns.{same_pairs, same_rows}
@@ -59,19 +67,18 @@ module _ (run other : Run) (alike : RunsAlike run other) where
   one_check place iface addr a b one two =
       let kinds : one.kinds ≡ two.kinds =
       same_kinds run other alike place place.mark one.kinds two.kinds one.world two.world one.is two.is in
-      let pairs : one.world.pairs ≡ two.world.pairs =
-      same_pairs run other alike place place.mark one.kinds two.kinds one.world two.world one.is two.is in
-      let moved : IsVerdict one.kinds two.world.rows one.world.pairs iface (Some addr) one.verdict =
+      let moved : IsVerdict one.kinds two.world.rows two.world.pairs iface (Some addr) one.verdict =
       same_verdict one.kinds one.world.rows two.world.rows
       (same_rows run other alike place place.mark one.kinds two.kinds one.world two.world one.is two.is)
-      one.world.pairs iface (Some addr) one.verdict one.judges in
-      let turned : IsVerdict two.kinds two.world.rows one.world.pairs iface (Some addr) one.verdict =
+      one.world.pairs two.world.pairs
+      (same_pairs run other alike place place.mark one.kinds two.kinds one.world two.world one.is two.is)
+      iface (Some addr) one.verdict one.judges in
+      let turned : IsVerdict two.kinds two.world.rows two.world.pairs iface (Some addr) one.verdict =
       subst
-      (λ (ks : List (ℕ × Kind)). IsVerdict ks two.world.rows one.world.pairs iface (Some addr) one.verdict)
+      (λ (ks : List (ℕ × Kind)). IsVerdict ks two.world.rows two.world.pairs iface (Some addr) one.verdict)
       kinds moved in
       let verdict =
-      one_verdict two.kinds two.world.rows two.world.pairs iface (Some addr) one.verdict two.verdict
-      (subst (λ (ps : List Pair). IsVerdict two.kinds two.world.rows ps iface (Some addr) one.verdict) pairs turned)
+      one_verdict two.kinds two.world.rows two.world.pairs iface (Some addr) one.verdict two.verdict turned
       two.judges in
       one.same ∙ ap (λ v. check_line iface addr v place.mark.number) verdict ∙ sym two.same
 
@@ -101,7 +108,12 @@ module _ (run other : Run) (alike : RunsAlike run other) where
   one_given place summary a b one two =
       let count : one.count ≡ two.count =
       one_left run.inputs other.inputs place.sessions one.count two.count alike.inputs one.left two.left in
-      one.same ∙ ap (λ (n : ℕ). summary_line n 0) count ∙ sym two.same
+      let pairs : length one.pairs ≡ length two.pairs =
+      sets_equally_long (pairs_after place.edits (pairs_in other.table)) one.pairs two.pairs
+      (subst (λ (t : Option Table). IsPairSet (pairs_after place.edits (pairs_in t)) one.pairs) alike.table one.set)
+      two.set in
+      one.same ∙ ap (λ (n : ℕ). summary_line n (length one.pairs)) count ∙ ap (summary_line two.count) pairs
+      ∙ sym two.same
 
   -- so have several, one after the other
   all_given : (place : Place) (steps : List Step) (xs ys : List (List ℕ)) → GiveAll run place steps xs
@@ -118,7 +130,26 @@ module _ (run other : Run) (alike : RunsAlike run other) where
       (subst (λ (p : Place). GiveAll run p steps xs) (next_alike run other alike step place) one.1) two.1 in
       λ i. first i ∷ more i
 
-  -- and so has a run
+  -- a run begins with as much
+  one_totals : (a b : Totals) → AreTotals run.config run.table a → AreTotals other.config other.table b → a ≡ b
+  one_totals a b one two = λ i. record {
+    interfaces = (one.interfaces ∙ ap (λ (c : Settings). length c.interfaces) alike.config ∙ sym two.interfaces) i;
+    sessions = (one.sessions ∙ ap (λ (c : Settings). length c.sessions) alike.config ∙ sym two.sessions) i;
+    pairs = (one.pairs
+        ∙ sets_equally_long (pairs_in other.table) one.set two.set
+        (subst (λ (t : Option Table). IsPairSet (pairs_in t) one.set) alike.table one.is) two.is
+        ∙ sym two.pairs) i;
+    skipped = (one.skipped ∙ ap skipped_in alike.table ∙ sym two.skipped) i;
+  }
+
+  -- a run has one head
+  one_head : (a b : List ℕ) → IsHead run a → IsHead other b → a ≡ b
+  one_head a b one two =
+      one.same ∙ ap (λ (c : Settings). head_text one.totals c.sessions) alike.config
+      ∙ ap (λ (t : Totals). head_text t other.config.sessions) (one_totals one.totals two.totals one.are two.are)
+      ∙ sym two.same
+
+  -- and one text
   pub one_text : (lines : List BookLine) (a b : List ℕ) → IsRunText run lines a → IsRunText other lines b → a ≡ b
   one_text lines a b one two =
       let begin = opening other.config.sessions in
@@ -129,13 +160,16 @@ module _ (run other : Run) (alike : RunsAlike run other) where
       let texts : one.texts ≡ two.texts = all_given begin steps one.texts two.texts given two.given in
       one.parts
       ∙ ap
-      (λ (c : Settings). head_text c ++ (concat one.texts
+      (λ (c : Settings). one.head ++ (concat one.texts
       ++ done_line (place_after run.inputs (steps_of (length c.sessions) lines) (opening c.sessions)).mark.number 0))
       alike.config
       ∙ ap
-      (λ (ts : List (List ℕ)). head_text other.config
+      (λ (ts : List (List ℕ)). one.head
       ++ (concat ts ++ done_line (place_after run.inputs steps begin).mark.number 0))
       texts
-      ∙ ap (λ (p : Place). head_text other.config ++ (concat two.texts ++ done_line p.mark.number 0))
+      ∙ ap (λ (p : Place). one.head ++ (concat two.texts ++ done_line p.mark.number 0))
       (after_alike run other alike steps begin)
+      ∙ ap
+      (λ (h : List ℕ). h ++ (concat two.texts ++ done_line (place_after other.inputs steps begin).mark.number 0))
+      (one_head one.head two.head one.is_head two.is_head)
       ∙ sym two.parts

@@ -1,22 +1,28 @@
 -- Words, texts and a number of sessions open one run, or decide one refusal, and never both.
-use Rattle.std.proofs.Common.{◌≡◌, ◌⊎◌, ℕ, List, length, refl, sym, ap, subst, ◌∙◌, arith, inl, inr}
+use Rattle.std.proofs.Common.{◌≡◌, ◌⊎◌, ℕ, List, length, refl, sym, ap, subst, ◌∙◌, inl, inr}
 use Rattle.std.proofs.Common.{Option, Some, IfSome, Result, Ok, Err, min}
 use Rattle.router_config.specs.declared.faults.ConfigFault.{ConfigFault}
 use Rattle.router_config.specs.Settings.{IsConfig, Settings}
 use Rattle.router_config.specs.Settings as settings
+use Rattle.roa_irr.specs.Tables.{Table}
 use Rattle.runbook.specs.declared.book.BookFault.{BookFault}
 use Rattle.runbook.specs.declared.lines.BookLine.{BookLine}
 use Rattle.runbook.specs.Book.{IsBook}
 use Rattle.runbook.proofs.BookLaws.{never_both, one_book, one_fault}
-use Rattle.urpf_cli.proofs.Refusals.{same_book_fault}
-use Rattle.urpf_cli.specs.Openings.{Configures, IsBookRefused, IsConfigRefused, IsRefused, IsRunbook, Opens}
-use Rattle.urpf_cli.specs.Openings.{IsDecided, IsFailure, IsTextFailure}
+use Rattle.urpf_cli.proofs.RefusalStatuses.{same_book_fault}
+use Rattle.urpf_cli.proofs.TableLaws.{has_or_refused, one_from, one_has, one_pairs_refusal}
+use Rattle.urpf_cli.proofs.TextLaws.{not_refused, one_text_refusal}
+use Rattle.urpf_cli.specs.Openings.{AreTold, Configures, IsBookRefused, IsConfigRefused, IsDecided, IsFailure}
+use Rattle.urpf_cli.specs.Openings.{IsRefused, IsRunbook, Opens, RefusesBook, RefusesCount, RefusesPairs, Texts}
+use Rattle.urpf_cli.specs.PairTables.{HasTable, IsPairsRefused}
+use Rattle.urpf_cli.specs.TextRefusals.{IsTextFailure}
+use Rattle.urpf_cli.specs.Words.{AreOfflineWords, PairsFrom}
 use Rattle.urpf_cli.specs.declared.opening.Opening.{Opening}
-use Rattle.urpf_cli.specs.Words.{AreOfflineWords}
-use Rattle.urpf_cli.specs.declared.opening.Refusal.{Refusal}
-use Rattle.urpf_cli.specs.declared.opening.Refusal.TheVariants.{Misused, Config, Book, SessionCount}
-use Rattle.urpf_cli.specs.declared.opening.TextRefusal.{TextRefusal}
-use Rattle.urpf_cli.specs.declared.opening.TextRefusal.TheVariants.{ReadFault, TooLong, Bad, OutOfMemory}
+use Rattle.urpf_cli.specs.declared.refusals.Refusal.{Refusal}
+use Rattle.urpf_cli.specs.declared.refusals.Refusal.TheVariants.{Misused, Config, Book, Pairs, SessionCount}
+use Rattle.urpf_cli.specs.declared.refusals.TextRefusal.{TextRefusal}
+use Rattle.urpf_cli.specs.declared.refusals.TextRefusal.TheVariants.{ReadFault, TooLong, Bad, OutOfMemory}
+use Rattle.urpf_cli.specs.declared.refusals.TooManyPairs.{TooManyPairs}
 
 -- a text configures one thing
 pub one_config : (text : List ℕ) (a b : Settings) → IsConfig text a → IsConfig text b → a ≡ b
@@ -48,48 +54,26 @@ one_config_fault text f g (inr a) (inr b) =
 -- a text that configures something is not refused as a configuration
 configured_or_refused : (text : List ℕ) (config : Settings) (r : TextRefusal ConfigFault) → Configures text config
     → IsConfigRefused text r → ⊥
-configured_or_refused text config ReadFault is refused = refused
-configured_or_refused text config TooLong is refused = omega (arith, is.short, refused)
-configured_or_refused text config (Bad fault) is refused = config_or_fault text config fault is.is refused.1
-configured_or_refused text config OutOfMemory is refused = refused
+configured_or_refused text config r is =
+    not_refused _ (settings.IsRefused text) text is.short (λ f. config_or_fault text config f is.is) r
 
 -- a configuration is refused for one thing
 one_config_refusal : (text : List ℕ) (q r : TextRefusal ConfigFault) → IsConfigRefused text q → IsConfigRefused text r
     → q ≡ r
-one_config_refusal text ReadFault r a b = absurd a
-one_config_refusal text OutOfMemory r a b = absurd a
-one_config_refusal text TooLong ReadFault a b = absurd b
-one_config_refusal text TooLong TooLong a b = refl
-one_config_refusal text TooLong (Bad f) a b = absurd (omega (arith, a, b.0))
-one_config_refusal text TooLong OutOfMemory a b = absurd b
-one_config_refusal text (Bad f) ReadFault a b = absurd b
-one_config_refusal text (Bad f) TooLong a b = absurd (omega (arith, a.0, b))
-one_config_refusal text (Bad f) (Bad g) a b = ap (λ x. Bad x) (one_config_fault text f g a.1 b.1)
-one_config_refusal text (Bad f) OutOfMemory a b = absurd b
+one_config_refusal text = one_text_refusal _ (settings.IsRefused text) text (one_config_fault text)
 
 -- a text that is a runbook is not refused as one
 listed_or_refused : (config : Settings) (text : List ℕ) (rows : List (ℕ × BookLine)) (r : TextRefusal BookFault)
     → IsRunbook config text rows → IsBookRefused config text r → ⊥
-listed_or_refused config text rows ReadFault is refused = refused
-listed_or_refused config text rows TooLong is refused = omega (arith, is.short, refused)
-listed_or_refused config text rows (Bad f) is refused = never_both config text rows f.line f.kind is.is refused.1
-listed_or_refused config text rows OutOfMemory is refused = refused
+listed_or_refused config text rows r is =
+    not_refused _ _ text is.short (λ f. never_both config text rows f.line f.kind is.is) r
 
 -- a runbook is refused for one thing
 one_book_refusal : (config : Settings) (text : List ℕ) (q r : TextRefusal BookFault) → IsBookRefused config text q
     → IsBookRefused config text r → q ≡ r
-one_book_refusal config text ReadFault r a b = absurd a
-one_book_refusal config text OutOfMemory r a b = absurd a
-one_book_refusal config text TooLong ReadFault a b = absurd b
-one_book_refusal config text TooLong TooLong a b = refl
-one_book_refusal config text TooLong (Bad f) a b = absurd (omega (arith, a, b.0))
-one_book_refusal config text TooLong OutOfMemory a b = absurd b
-one_book_refusal config text (Bad f) ReadFault a b = absurd b
-one_book_refusal config text (Bad f) TooLong a b = absurd (omega (arith, a.0, b))
-one_book_refusal config text (Bad f) (Bad g) a b =
-    let same = one_fault config text f.line g.line f.kind g.kind a.1 b.1 in
-    ap (λ x. Bad x) (same_book_fault f g same.0 same.1)
-one_book_refusal config text (Bad f) OutOfMemory a b = absurd b
+one_book_refusal config text =
+    one_text_refusal _ _ text (λ f g a b.
+    let same = one_fault config text f.line g.line f.kind g.kind a b in same_book_fault f g same.0 same.1)
 
 -- one configuration is configured
 pub one_configured : (text : List ℕ) (a b : Settings) → Configures text a → Configures text b → a ≡ b
@@ -101,158 +85,198 @@ same_listed : (book : List ℕ) (a b : Settings) (rows others : List (ℕ × Boo
 same_listed book a b rows others same is other =
     one_book b book rows others (subst (λ (s : Settings). IsBook s book rows) same is.is) other.is
 
-refused_elsewhere : (book : List ℕ) (a b : Settings) (r : TextRefusal BookFault) → a ≡ b → IsBookRefused a book r
-    → IsBookRefused b book r
-refused_elsewhere book a b r same refused = subst (λ (s : Settings). IsBookRefused s book r) same refused
+module _ (words : List (List ℕ)) (texts : Texts) where
+  -- the words say where the pairs come from, whoever reads them
+  has_table : (a b : AreOfflineWords words) (pairs : Option Table) → HasTable a.pairs texts.pairs pairs
+      → HasTable b.pairs texts.pairs pairs
+  has_table a b pairs = subst (λ (from : PairsFrom). HasTable from texts.pairs pairs) (one_from words a b)
 
--- one run is opened
-pub one_opening : (words : List (List ℕ)) (config book : List ℕ) (given : ℕ) (a b : Settings)
-    (rows others : List (ℕ × BookLine)) → Opens words config book given a rows → Opens words config book given b others
-    → (a ≡ b) × (rows ≡ others)
-one_opening words config book given a b rows others is other =
-    let same = one_configured config a b is.configured other.configured in
-    (same, same_listed book a b rows others same is.listed other.listed)
+  -- a runbook that is read is not refused
+  book_clash : (s : Settings) (rows : List (ℕ × BookLine)) (r : TextRefusal BookFault) → Configures texts.config s
+      → IsRunbook s texts.book rows → RefusesBook words texts r → ⊥
+  book_clash s rows r configured listed refuses =
+      let same = one_configured texts.config refuses.settings s refuses.configured configured in
+      listed_or_refused s texts.book rows r listed
+      (subst (λ (t : Settings). IsBookRefused t texts.book r) same refuses.refused)
 
--- what opens a run is not refused
-pub opens_or_refused : (words : List (List ℕ)) (config book : List ℕ) (given : ℕ) (s : Settings)
-    (rows : List (ℕ × BookLine)) (r : Refusal) → Opens words config book given s rows
-    → IsRefused words config book given r → ⊥
-opens_or_refused words config book given s rows Misused is refused = refused is.fit
-opens_or_refused words config book given s rows (Config r) is refused =
-    configured_or_refused config s r is.configured refused.1
-opens_or_refused words config book given s rows (Book r) is refused =
-    let same = one_configured config refused.1.0 s refused.1.1 is.configured in
-    listed_or_refused s book rows r is.listed (refused_elsewhere book refused.1.0 s r same refused.1.2)
-opens_or_refused words config book given s rows (SessionCount told wanted) is refused =
-    let same = one_configured config s refused.1.settings is.configured refused.1.configured in
-    refused.1.differs (is.counted ∙ ap (λ (x : Settings). length x.sessions) same ∙ sym refused.1.wants)
+  -- a table of pairs that a run begins with is not refused
+  pairs_clash : (fit : AreOfflineWords words) (pairs : Option Table) (r : TextRefusal TooManyPairs)
+      → HasTable fit.pairs texts.pairs pairs → RefusesPairs words texts r → ⊥
+  pairs_clash fit pairs r tabled refuses =
+      has_or_refused refuses.fit.pairs texts.pairs pairs r (has_table fit refuses.fit pairs tabled) refuses.refused
 
--- what is refused is refused for one thing
-pub one_refusal : (words : List (List ℕ)) (config book : List ℕ) (given : ℕ) (q r : Refusal)
-    → IsRefused words config book given q → IsRefused words config book given r → q ≡ r
-one_refusal words config book given Misused Misused a b = refl
-one_refusal words config book given Misused (Config r) a b = absurd (a b.0)
-one_refusal words config book given Misused (Book r) a b = absurd (a b.0)
-one_refusal words config book given Misused (SessionCount t w) a b = absurd (a b.0)
-one_refusal words config book given (Config q) Misused a b = absurd (b a.0)
-one_refusal words config book given (Config q) (Config r) a b =
-    ap (λ x. Config x) (one_config_refusal config q r a.1 b.1)
-one_refusal words config book given (Config q) (Book r) a b =
-    absurd (configured_or_refused config b.1.0 q b.1.1 a.1)
-one_refusal words config book given (Config q) (SessionCount t w) a b =
-    absurd (configured_or_refused config b.1.settings q b.1.configured a.1)
-one_refusal words config book given (Book q) Misused a b = absurd (b a.0)
-one_refusal words config book given (Book q) (Config r) a b =
-    absurd (configured_or_refused config a.1.0 r a.1.1 b.1)
-one_refusal words config book given (Book q) (Book r) a b =
-    let same = one_configured config a.1.0 b.1.0 a.1.1 b.1.1 in
-    ap (λ x. Book x)
-    (one_book_refusal b.1.0 book q r (refused_elsewhere book a.1.0 b.1.0 q same a.1.2) b.1.2)
-one_refusal words config book given (Book q) (SessionCount t w) a b =
-    let same = one_configured config a.1.0 b.1.settings a.1.1 b.1.configured in
-    absurd (listed_or_refused b.1.settings book b.1.rows q b.1.listed
-    (refused_elsewhere book a.1.0 b.1.settings q same a.1.2))
-one_refusal words config book given (SessionCount t w) Misused a b = absurd (b a.0)
-one_refusal words config book given (SessionCount t w) (Config r) a b =
-    absurd (configured_or_refused config a.1.settings r a.1.configured b.1)
-one_refusal words config book given (SessionCount t w) (Book r) a b =
-    let same = one_configured config b.1.0 a.1.settings b.1.1 a.1.configured in
-    absurd (listed_or_refused a.1.settings book a.1.rows r a.1.listed
-    (refused_elsewhere book b.1.0 a.1.settings r same b.1.2))
-one_refusal words config book given (SessionCount t w) (SessionCount u v) a b =
-    let same = one_configured config a.1.settings b.1.settings a.1.configured b.1.configured in
-    let wanted : w ≡ v = a.1.wants ∙ ap (λ (x : Settings). length x.sessions) same ∙ sym b.1.wants in
-    let told : t ≡ u = a.1.tells ∙ sym b.1.tells in
-    cc
+  one_book_refused : (q r : TextRefusal BookFault) → RefusesBook words texts q → RefusesBook words texts r → q ≡ r
+  one_book_refused q r a b =
+      let same = one_configured texts.config a.settings b.settings a.configured b.configured in
+      one_book_refusal b.settings texts.book q r
+      (subst (λ (t : Settings). IsBookRefused t texts.book q) same a.refused) b.refused
+
+  one_pairs_refused : (q r : TextRefusal TooManyPairs) → RefusesPairs words texts q → RefusesPairs words texts r
+      → q ≡ r
+  one_pairs_refused q r a b =
+      one_pairs_refusal b.fit.pairs texts.pairs q r
+      (subst (λ (from : PairsFrom). IsPairsRefused from texts.pairs q) (one_from words a.fit b.fit) a.refused) b.refused
+
+  module _ (given : ℕ) where
+    one_count : (t w u v : ℕ) → RefusesCount words texts given t w → RefusesCount words texts given u v
+        → SessionCount t w ≡ SessionCount u v
+    one_count t w u v a b =
+        let same = one_configured texts.config a.settings b.settings a.configured b.configured in
+        let wanted : w ≡ v = a.wants ∙ ap (λ (x : Settings). length x.sessions) same ∙ sym b.wants in
+        let told : t ≡ u = a.tells ∙ sym b.tells in
+        cc
+
+    -- one run is opened
+    pub one_opening : (a b : Settings) (rows others : List (ℕ × BookLine)) (pairs other : Option Table)
+        → Opens words texts given a rows pairs → Opens words texts given b others other
+        → (a ≡ b) × (rows ≡ others) × (pairs ≡ other)
+    one_opening a b rows others pairs other is more =
+        let same = one_configured texts.config a b is.configured more.configured in (
+          same,
+          same_listed texts.book a b rows others same is.listed more.listed,
+          one_has more.fit.pairs texts.pairs pairs other (has_table is.fit more.fit pairs is.tabled) more.tabled,
+        )
+
+    -- what opens a run is not refused
+    pub opens_or_refused : (s : Settings) (rows : List (ℕ × BookLine)) (pairs : Option Table) (r : Refusal)
+        → Opens words texts given s rows pairs → IsRefused words texts given r → ⊥
+    opens_or_refused s rows pairs Misused is refused = refused is.fit
+    opens_or_refused s rows pairs (Config r) is refused =
+        configured_or_refused texts.config s r is.configured refused.1
+    opens_or_refused s rows pairs (Book r) is refused = book_clash s rows r is.configured is.listed refused
+    opens_or_refused s rows pairs (Pairs r) is refused = pairs_clash is.fit pairs r is.tabled refused
+    opens_or_refused s rows pairs (SessionCount told wanted) is refused =
+        let same = one_configured texts.config s refused.settings is.configured refused.configured in
+        refused.differs (is.counted ∙ ap (λ (x : Settings). length x.sessions) same ∙ sym refused.wants)
+
+    -- what is refused is refused for one thing
+    pub one_refusal : (q r : Refusal) → IsRefused words texts given q → IsRefused words texts given r → q ≡ r
+    one_refusal Misused Misused a b = refl
+    one_refusal Misused (Config r) a b = absurd (a b.0)
+    one_refusal Misused (Book r) a b = absurd (a b.fit)
+    one_refusal Misused (Pairs r) a b = absurd (a b.fit)
+    one_refusal Misused (SessionCount t w) a b = absurd (a b.fit)
+    one_refusal (Config q) Misused a b = absurd (b a.0)
+    one_refusal (Config q) (Config r) a b = ap (λ x. Config x) (one_config_refusal texts.config q r a.1 b.1)
+    one_refusal (Config q) (Book r) a b = absurd (configured_or_refused texts.config b.settings q b.configured a.1)
+    one_refusal (Config q) (Pairs r) a b = absurd (configured_or_refused texts.config b.settings q b.configured a.1)
+    one_refusal (Config q) (SessionCount t w) a b =
+        absurd (configured_or_refused texts.config b.settings q b.configured a.1)
+    one_refusal (Book q) Misused a b = absurd (b a.fit)
+    one_refusal (Book q) (Config r) a b = absurd (configured_or_refused texts.config a.settings r a.configured b.1)
+    one_refusal (Book q) (Book r) a b = ap (λ x. Book x) (one_book_refused q r a b)
+    one_refusal (Book q) (Pairs r) a b = absurd (book_clash b.settings b.rows q b.configured b.listed a)
+    one_refusal (Book q) (SessionCount t w) a b = absurd (book_clash b.settings b.rows q b.configured b.listed a)
+    one_refusal (Pairs q) Misused a b = absurd (b a.fit)
+    one_refusal (Pairs q) (Config r) a b = absurd (configured_or_refused texts.config a.settings r a.configured b.1)
+    one_refusal (Pairs q) (Book r) a b = absurd (book_clash a.settings a.rows r a.configured a.listed b)
+    one_refusal (Pairs q) (Pairs r) a b = ap (λ x. Pairs x) (one_pairs_refused q r a b)
+    one_refusal (Pairs q) (SessionCount t w) a b = absurd (pairs_clash b.fit b.pairs q b.tabled a)
+    one_refusal (SessionCount t w) Misused a b = absurd (b a.fit)
+    one_refusal (SessionCount t w) (Config r) a b =
+        absurd (configured_or_refused texts.config a.settings r a.configured b.1)
+    one_refusal (SessionCount t w) (Book r) a b = absurd (book_clash a.settings a.rows r a.configured a.listed b)
+    one_refusal (SessionCount t w) (Pairs r) a b = absurd (pairs_clash a.fit a.pairs r a.tabled b)
+    one_refusal (SessionCount t w) (SessionCount u v) a b = one_count t w u v a b
+
+-- a refusal of a text is a failure or not
+text_failure : {F : Type 0} (r : TextRefusal F) → IsTextFailure r ⊎ (¬ (IsTextFailure r))
+text_failure ReadFault = inl tt
+text_failure TooLong = inr (λ f. f)
+text_failure (Bad fault) = inr (λ f. f)
+text_failure OutOfMemory = inl tt
 
 -- a refusal is a failure or decided
 failure_or_decided : (r : Refusal) → IsFailure r ⊎ IsDecided r
 failure_or_decided Misused = inr (λ f. f)
-failure_or_decided (Config ReadFault) = inl tt
-failure_or_decided (Config TooLong) = inr (λ f. f)
-failure_or_decided (Config (Bad f)) = inr (λ f. f)
-failure_or_decided (Config OutOfMemory) = inl tt
-failure_or_decided (Book ReadFault) = inl tt
-failure_or_decided (Book TooLong) = inr (λ f. f)
-failure_or_decided (Book (Bad f)) = inr (λ f. f)
-failure_or_decided (Book OutOfMemory) = inl tt
+failure_or_decided (Config r) = text_failure r
+failure_or_decided (Book r) = text_failure r
+failure_or_decided (Pairs r) = text_failure r
 failure_or_decided (SessionCount told wanted) = inr (λ f. f)
 
--- what opens a run is refused by a failure alone
-pub fails_if_opens : (words : List (List ℕ)) (config book : List ℕ) (given : ℕ) (s : Settings)
-    (rows : List (ℕ × BookLine)) (r : Refusal) → Opens words config book given s rows
-    → (IsDecided r → IsRefused words config book given r) → IsFailure r
-fails_if_opens words config book given s rows r opens refused =
-    elim (failure_or_decided r) [
-      | inl failure ↦ failure
-      | inr decided ↦ absurd (opens_or_refused words config book given s rows r opens (refused decided))
-    ]
+module _ (words : List (List ℕ)) (texts : Texts) (given : ℕ) where
+  -- what opens a run is refused by a failure alone
+  pub fails_if_opens : (s : Settings) (rows : List (ℕ × BookLine)) (pairs : Option Table) (r : Refusal)
+      → Opens words texts given s rows pairs → (IsDecided r → IsRefused words texts given r) → IsFailure r
+  fails_if_opens s rows pairs r opens refused =
+      elim (failure_or_decided r) [
+        | inl failure ↦ failure
+        | inr decided ↦ absurd (opens_or_refused words texts given s rows pairs r opens (refused decided))
+      ]
 
--- what is refused for one thing is refused for that, or by a failure
-pub same_or_fails : (words : List (List ℕ)) (config book : List ℕ) (given : ℕ) (q r : Refusal)
-    → IsRefused words config book given r → (IsDecided q → IsRefused words config book given q)
-    → (q ≡ r) ⊎ IsFailure q
-same_or_fails words config book given q r is refused =
-    elim (failure_or_decided q) [
-      | inl failure ↦ inr failure
-      | inr decided ↦ inl (one_refusal words config book given q r (refused decided) is)
-    ]
+  -- what is refused for one thing is refused for that, or by a failure
+  pub same_or_fails : (q r : Refusal) → IsRefused words texts given r → (IsDecided q → IsRefused words texts given q)
+      → (q ≡ r) ⊎ IsFailure q
+  same_or_fails q r is refused =
+      elim (failure_or_decided q) [
+        | inl failure ↦ inr failure
+        | inr decided ↦ inl (one_refusal words texts given q r (refused decided) is)
+      ]
 
 -- what holds of a text that is told
 told : (P : List ℕ → Type 0) (left : Option (List ℕ)) (text : List ℕ) → IfSome left P → left ≡ Some text → P text
 told P left text holds is = subst (λ o. IfSome o P) is holds
 
--- a configuration that was refused, over the texts that are told
-pub config_told : (words : List (List ℕ)) (left : Option (List ℕ)) (given : ℕ) (r : TextRefusal ConfigFault)
-    → AreOfflineWords words → (¬ (IsTextFailure r) → IfSome left (λ text. IsConfigRefused text r))
-    → (config book : List ℕ) → left ≡ Some config → IsDecided (Config r) → IsRefused words config book given (Config r)
-config_told words left given r fit refused config book is decided =
-    (fit, told (λ text. IsConfigRefused text r) left config (refused decided) is)
+-- the texts that three sources tell
+module _ (words : List (List ℕ)) (config book pairs : Option (List ℕ)) (texts : Texts)
+    (are : AreTold config book pairs texts) (fit : AreOfflineWords words) where
+  -- a configuration that was refused
+  pub config_told : (r : TextRefusal ConfigFault) → (¬ (IsTextFailure r) → IfSome config (λ t. IsConfigRefused t r))
+      → (given : ℕ) → IsDecided (Config r) → IsRefused words texts given (Config r)
+  config_told r refused given decided =
+      (fit, told (λ t. IsConfigRefused t r) config texts.config (refused decided) are.configuration)
 
--- a runbook that was refused, over the texts that are told
-pub book_told : (words : List (List ℕ)) (left more : Option (List ℕ)) (given : ℕ) (s : Settings)
-    (r : TextRefusal BookFault) → AreOfflineWords words → IfSome left (λ text. Configures text s)
-    → (¬ (IsTextFailure r) → IfSome more (λ text. IsBookRefused s text r)) → (config book : List ℕ)
-    → left ≡ Some config → more ≡ Some book → IsDecided (Book r) → IsRefused words config book given (Book r)
-book_told words left more given s r fit configured refused config book is are decided = (
-  fit,
-  (
-    s,
-    told (λ text. Configures text s) left config configured is,
-    told (λ text. IsBookRefused s text r) more book (refused decided) are,
-  ),
-)
+  module _ (s : Settings) (configured : IfSome config (λ t. Configures t s)) where
+    -- a runbook that was refused
+    pub book_told : (r : TextRefusal BookFault) → (¬ (IsTextFailure r) → IfSome book (λ t. IsBookRefused s t r))
+        → ¬ (IsTextFailure r) → RefusesBook words texts r
+    book_told r refused decided = record {
+      fit = fit;
+      settings = s;
+      configured = told (λ t. Configures t s) config texts.config configured are.configuration;
+      refused = told (λ t. IsBookRefused s t r) book texts.book (refused decided) are.runbook;
+    }
 
--- a number of sessions that was refused, over the texts that are told
-pub count_told : (words : List (List ℕ)) (left more : Option (List ℕ)) (given t w : ℕ) (s : Settings)
-    (rows : List (ℕ × BookLine)) → AreOfflineWords words → IfSome left (λ text. Configures text s)
-    → IfSome more (λ text. IsRunbook s text rows) → w ≡ length s.sessions → ¬ (given ≡ w) → t ≡ min given 4294967295
-    → (config book : List ℕ) → left ≡ Some config → more ≡ Some book
-    → IsRefused words config book given (SessionCount t w)
-count_told words left more given t w s rows fit configured listed wants differs tells config book is are = (
-  fit,
-  record {
-    settings = s;
-    rows = rows;
-    configured = told (λ text. Configures text s) left config configured is;
-    listed = told (λ text. IsRunbook s text rows) more book listed are;
-    wants = wants;
-    differs = differs;
-    tells = tells;
-  },
-)
+    module _ (rows : List (ℕ × BookLine)) (listed : IfSome book (λ t. IsRunbook s t rows)) where
+      -- a table of pairs that was refused
+      pub pairs_told : (r : TextRefusal TooManyPairs)
+          → (¬ (IsTextFailure r) → IfSome pairs (λ t. IsPairsRefused fit.pairs t r)) → ¬ (IsTextFailure r)
+          → RefusesPairs words texts r
+      pairs_told r refused decided = record {
+        fit = fit;
+        settings = s;
+        configured = told (λ t. Configures t s) config texts.config configured are.configuration;
+        rows = rows;
+        listed = told (λ t. IsRunbook s t rows) book texts.book listed are.runbook;
+        refused = told (λ t. IsPairsRefused fit.pairs t r) pairs texts.pairs (refused decided) are.table;
+      }
 
--- what was opened, over the texts that are told
-pub opens_told : (words : List (List ℕ)) (left more : Option (List ℕ)) (given : ℕ) (s : Settings)
-    (rows : List (ℕ × BookLine)) → AreOfflineWords words → IfSome left (λ text. Configures text s)
-    → IfSome more (λ text. IsRunbook s text rows) → given ≡ length s.sessions → (config book : List ℕ)
-    → left ≡ Some config → more ≡ Some book → Opens words config book given s rows
-opens_told words left more given s rows fit configured listed counted config book is are = record {
-  fit = fit;
-  configured = told (λ text. Configures text s) left config configured is;
-  listed = told (λ text. IsRunbook s text rows) more book listed are;
-  counted = counted;
-}
+      module _ (table : Option Table) (tabled : IfSome pairs (λ t. HasTable fit.pairs t table)) (given : ℕ) where
+        -- a number of sessions that was refused
+        pub count_told : (t w : ℕ) → w ≡ length s.sessions → ¬ (given ≡ w) → t ≡ min given 4294967295
+            → RefusesCount words texts given t w
+        count_told t w wants differs tells = record {
+          settings = s;
+          rows = rows;
+          pairs = table;
+          fit = fit;
+          configured = told (λ t. Configures t s) config texts.config configured are.configuration;
+          listed = told (λ t. IsRunbook s t rows) book texts.book listed are.runbook;
+          tabled = told (λ t. HasTable fit.pairs t table) pairs texts.pairs tabled are.table;
+          wants = wants;
+          differs = differs;
+          tells = tells;
+        }
+
+        -- what was opened
+        pub opens_told : given ≡ length s.sessions → Opens words texts given s rows table
+        opens_told counted = record {
+          fit = fit;
+          configured = told (λ t. Configures t s) config texts.config configured are.configuration;
+          listed = told (λ t. IsRunbook s t rows) book texts.book listed are.runbook;
+          tabled = told (λ t. HasTable fit.pairs t table) pairs texts.pairs tabled are.table;
+          counted = counted;
+        }
 
 -- an error of this refusal, or one that is a failure
 pub same_error_or_fails : {T : Type 0} (q r : Refusal) → (q ≡ r) ⊎ IsFailure q
@@ -260,9 +284,9 @@ pub same_error_or_fails : {T : Type 0} (q r : Refusal) → (q ≡ r) ⊎ IsFailu
 same_error_or_fails q r (inl is) = inl (ap (λ x. Err x) is)
 same_error_or_fails q r (inr fails) = inr fails
 
-pub same_opening : (a b : Settings) (rows others : List (ℕ × BookLine)) → (a ≡ b) × (rows ≡ others)
-    → ◌≡◌ {A = Result Opening Refusal} (Ok (record { config = a; book = rows }))
-    (Ok (record { config = b; book = others }))
-same_opening a b rows others same =
-    ap (λ (s : Settings). Ok (record { config = s; book = rows })) same.0
-    ∙ ap (λ (rs : List (ℕ × BookLine)). Ok (record { config = b; book = rs })) same.1
+pub same_opening : (a b : Settings) (rows others : List (ℕ × BookLine)) (pairs other : Option Table)
+    → (a ≡ b) × (rows ≡ others) × (pairs ≡ other)
+    → ◌≡◌ {A = Result Opening Refusal} (Ok (record { config = a; book = rows; pairs = pairs }))
+    (Ok (record { config = b; book = others; pairs = other }))
+same_opening a b rows others pairs other same =
+    λ i. Ok (record { config = same.0 i; book = same.1 i; pairs = same.2 i })

@@ -1,8 +1,9 @@
--- A configuration, a runbook and the events of its sessions have one output.
-use Rattle.std.proofs.Common.{◌≡◌, ℕ, List, [], ◌∷◌, length, map, None, refl, subst, sym, ◌∙◌, arith}
+-- A configuration, a runbook, a table of pairs and the events of the sessions have one output.
+use Rattle.std.proofs.Common.{◌≡◌, ℕ, List, [], ◌∷◌, length, map, Option, None, refl, subst, sym, ◌∙◌, arith}
 use Rattle.std.specs.List.{AllZip}
 use Rattle.urpf_base.specs.declared.sessions.SessionConfig.{SessionConfig}
 use Rattle.feed_io.specs.Events.{Event}
+use Rattle.roa_irr.specs.Tables.{Table}
 use Rattle.router_config.specs.Settings.{IsConfig, Settings}
 use Rattle.runbook.specs.declared.lines.BookLine.{BookLine}
 use Rattle.runbook.specs.Book.{IsBook}
@@ -14,12 +15,17 @@ use Rattle.control_core.proofs.ItemLaws.{rest_by_cuts, some_rest}
 use Rattle.control_core.proofs.RunLaws.{one_run}
 use Rattle.control_core.proofs.SomeRun.{some_run}
 use Rattle.urpf_cli.specs.Inputs.{Input, IsInput, Run}
+use Rattle.urpf_cli.specs.Openings.{Texts}
 use Rattle.urpf_cli.specs.Outputs.{IsOutput, Reads}
+use Rattle.urpf_cli.specs.PairTables.{HasTable}
 use Rattle.urpf_cli.specs.RunText.{IsRunText}
 use Rattle.urpf_cli.specs.Steps.{lines_in}
+use Rattle.urpf_cli.specs.Words.{PairsFrom}
 use Rattle.urpf_cli.proofs.OneText.{one_text}
+use Rattle.urpf_cli.proofs.OpeningLaws.{one_config}
 use Rattle.urpf_cli.proofs.SameRuns.{AreAlike, RunsAlike}
 use Rattle.urpf_cli.proofs.SomeText.{some_text}
+use Rattle.urpf_cli.proofs.TableLaws.{one_has}
 
 -- a session that is configured so has an input over these events
 some_input : (config : SessionConfig) (events : List Event)
@@ -51,12 +57,13 @@ some_inputs (config ∷ configs) (first ∷ events) same =
     let (inputs, are, all) = some_inputs configs events (omega (arith, same)) in
     (input ∷ inputs, (is, are), λ i. told i ∷ all i)
 
-pub some_output : (config book : List ℕ) (settings : Settings) (rows : List (ℕ × BookLine))
-    (events : List (List Event)) → IsConfig config settings → IsBook settings book rows
-    → length events ≡ length settings.sessions → (output : List ℕ) × IsOutput config book events output
-some_output config book settings rows events configures lists same =
+pub some_output : (from : PairsFrom) (texts : Texts) (settings : Settings) (rows : List (ℕ × BookLine))
+    (table : Option Table) (events : List (List Event)) → IsConfig texts.config settings
+    → IsBook settings texts.book rows → HasTable from texts.pairs table → length events ≡ length settings.sessions
+    → (output : List ℕ) × IsOutput from texts events output
+some_output from texts settings rows table events configures lists has same =
     let (inputs, are, told) = some_inputs settings.sessions events same in
-    let run : Run = record { config = settings; inputs = inputs } in
+    let run : Run = record { config = settings; table = table; inputs = inputs } in
     let (text, is) = some_text run (lines_in rows) in (
       text,
       record {
@@ -64,8 +71,10 @@ some_output config book settings rows events configures lists same =
         configures = configures;
         rows = rows;
         lists = lists;
+        table = table;
+        has = has;
         run = run;
-        reads = record { configured = refl; told = told; is = are };
+        reads = record { configured = refl; tabled = refl; told = told; is = are };
         is = is;
       },
     )
@@ -97,36 +106,32 @@ inputs_alike (config ∷ configs) (x ∷ xs) [] p q cuts = absurd q
 inputs_alike (config ∷ configs) (x ∷ xs) (y ∷ ys) p q cuts =
     (input_alike config x y p.0 q.0 cuts.0, inputs_alike configs xs ys p.1 q.1 cuts.1)
 
--- a text configures one thing
-one_config : (text : List ℕ) (a b : Settings) → IsConfig text a → IsConfig text b → a ≡ b
-one_config text a b p q =
-    let one = p.parsed.1 in
-    let two = q.parsed.1 in
-    let first = p.value in
-    let second = q.value in
-    cc
-
--- runs of one configuration over events that differ in nothing but cuts are alike
-runs_alike : (run other : Run) (settings : Settings) (events others : List (List Event))
-    → AllZip SameButCuts events others → Reads run settings events → Reads other settings others → RunsAlike run other
-runs_alike run other settings events others cuts one two =
+-- runs of one configuration and one table over events that differ in nothing but cuts are alike
+runs_alike : (run other : Run) (settings : Settings) (table : Option Table) (events others : List (List Event))
+    → AllZip SameButCuts events others → Reads run settings table events → Reads other settings table others
+    → RunsAlike run other
+runs_alike run other settings table events others cuts one two =
     let config : run.config ≡ other.config = one.configured ∙ sym two.configured in
     record {
       config = config;
+      table = one.tabled ∙ sym two.tabled;
       inputs = inputs_alike other.config.sessions run.inputs other.inputs
           (subst (λ (c : Settings). AllZip IsInput c.sessions run.inputs) config one.is) two.is
           (rw (one.told, two.told) cuts);
     }
 
-pub one_output : (config book : List ℕ) (events others : List (List Event)) (output other : List ℕ)
-    → AllZip SameButCuts events others → IsOutput config book events output → IsOutput config book others other
+pub one_output : (from : PairsFrom) (texts : Texts) (events others : List (List Event)) (output other : List ℕ)
+    → AllZip SameButCuts events others → IsOutput from texts events output → IsOutput from texts others other
     → output ≡ other
-one_output config book events others output other cuts a b =
-    let settings : a.settings ≡ b.settings = one_config config a.settings b.settings a.configures b.configures in
+one_output from texts events others output other cuts a b =
+    let settings : a.settings ≡ b.settings = one_config texts.config a.settings b.settings a.configures b.configures in
     let rows : a.rows ≡ b.rows =
-    one_book b.settings book a.rows b.rows (subst (λ (c : Settings). IsBook c book a.rows) settings a.lists) b.lists in
-    let alike =
-    runs_alike a.run b.run b.settings events others cuts
-    (subst (λ (c : Settings). Reads a.run c events) settings a.reads) b.reads in
+    one_book b.settings texts.book a.rows b.rows (subst (λ (c : Settings). IsBook c texts.book a.rows) settings a.lists)
+    b.lists in
+    let table : a.table ≡ b.table = one_has from texts.pairs a.table b.table a.has b.has in
+    let reads : Reads a.run b.settings b.table events =
+    subst (λ (t : Option Table). Reads a.run b.settings t events) table
+    (subst (λ (c : Settings). Reads a.run c a.table events) settings a.reads) in
+    let alike = runs_alike a.run b.run b.settings b.table events others cuts reads b.reads in
     one_text a.run b.run alike (lines_in b.rows) output other
     (subst (λ (rs : List (ℕ × BookLine)). IsRunText a.run (lines_in rs) output) rows a.is) b.is

@@ -23,7 +23,7 @@ use Rattle.control_core.specs.declared.limits.RunFault.TheVariants as refusal
 use Rattle.control_core.proofs.HistoryLaws.{none_pending}
 use Rattle.control_core.proofs.Many.{stand_at}
 use Rattle.control_core.proofs.Places.{get_set, some_at, some_one}
-use Rattle.urpf_cli.specs.Inputs.{Input, IsInput, Run, total}
+use Rattle.urpf_cli.specs.Inputs.{Input, IsInput, Run, opening_of, total}
 use Rattle.urpf_cli.specs.Limits.{PullFillsItems, PullFillsOctets, StepFills}
 use Rattle.urpf_cli.specs.Places.{Place, Reached, not_begun, pulled, pulled_of, reached_at}
 use Rattle.urpf_cli.specs.RunText.{Gives, pull_text, pull_text_of}
@@ -141,7 +141,7 @@ pull_done : {F : Type 0} (left : F → Option (List Event)) (run : Run) (place :
     → ((course : Course) (peer : PeerState) (gave : List Event) (more : List Effect)
     → slice_get s.courses session ≡ Some course → slice_get new.peers session ≡ Some peer
     → StandsFor (course.events ++ gave) (course.effects ++ more) peer
-    → ControlStandsFor run.config place.edits (slice_set s.courses session (goes_on course gave more)) new)
+    → ControlStandsFor (opening_of run) place.edits (slice_set s.courses session (goes_on course gave more)) new)
     → KeepsPublished old new → new.exhausted ≡ false
     → RanStep run place (steps.pull session count) (Ok tt) new rounds (map left new_feeds) old_held new_held
 pull_done left run place session count old new rounds old_feeds new_feeds old_held new_held s within one stands kept
@@ -343,7 +343,7 @@ pub pull_ran : {F : Type 0} (left : F → Option (List Event)) (run : Run) (plac
     → ((course : Course) (peer : PeerState) (gave : List Event) (more : List Effect)
     → slice_get s.courses session ≡ Some course → slice_get new.peers session ≡ Some peer
     → StandsFor (course.events ++ gave) (course.effects ++ more) peer
-    → ControlStandsFor run.config place.edits (slice_set s.courses session (goes_on course gave more)) new)
+    → ControlStandsFor (opening_of run) place.edits (slice_set s.courses session (goes_on course gave more)) new)
     → KeepsPublished old new → (new.exhausted ≡ true) ↔ (result ≡ Err refusal.OutOfMemory)
     → RanStep run place (steps.pull session count) result new rounds (map left new_feeds) old_held new_held
 pull_ran left run place session count (Ok done) old new rounds old_feeds new_feeds old_held new_held s within one stands

@@ -6,12 +6,11 @@ use Rattle.urpf_base.specs.declared.kinds.Kind.{Kind}
 use Rattle.urpf_base.specs.declared.sessions.SessionConfig.{SessionConfig}
 use Rattle.feed_io.specs.Events.{Event}
 use Rattle.router_config.specs.Configured.{IsConfigured}
-use Rattle.router_config.specs.Settings.{Settings}
 use Rattle.control_core.specs.Controls.{AllStand, IsOpened}
 use Rattle.control_core.specs.Controls as controls
 use Rattle.control_core.specs.States.{ControlState, PeerState}
-use Rattle.control_core.specs.Worlds.{kinds_after, last_number}
-use Rattle.urpf_cli.specs.Inputs.{Input, IsInput, IsRun, Run, told_by}
+use Rattle.control_core.specs.Worlds.{Opening, kinds_after, last_number}
+use Rattle.urpf_cli.specs.Inputs.{Input, IsInput, IsRun, Run, opening_of, told_by}
 use Rattle.urpf_cli.specs.Places.{not_begun, opening}
 use Rattle.urpf_cli.specs.Runs.{AreSessionsAt, IsAt, Serves, run_limits}
 
@@ -43,7 +42,7 @@ sessions_opened (k ∷ configs) (i ∷ inputs) (p ∷ peers) is stand unmet = (
 
 -- a run at its opening, where its control is new and its feeds tell all that they have
 pub opened_at : (run : Run) (control : ControlState) (lefts : List (Option (List Event))) → IsRun run
-    → IsOpened run.config run_limits control → lefts ≡ told_by run
+    → IsOpened (opening_of run) run_limits control → lefts ≡ told_by run
     → IsAt run (opening run.config.sessions) control 0 lefts
 opened_at run control lefts is opened told = record {
   whole = is;
@@ -68,16 +67,16 @@ as_many (k ∷ configs) [] stand = absurd stand
 as_many (k ∷ configs) (p ∷ peers) stand = omega (arith, as_many configs peers stand.2)
 
 -- a new control serves its configuration
-pub serves_opened : (config : Settings) (control : ControlState) → length config.sessions ≤ 128
-    → IsOpened config run_limits control → Serves config control
-serves_opened config control few opened = record {
-  sessions = as_many config.sessions control.peers opened.stands.stand;
+pub serves_opened : (begun : Opening) (control : ControlState) → length begun.settings.sessions ≤ 128
+    → IsOpened begun run_limits control → Serves begun.settings control
+serves_opened begun control few opened = record {
+  sessions = as_many begun.settings.sessions control.peers opened.stands.stand;
   few = few;
   interfaces = λ iface is. subst (λ (rows : List (ℕ × Kind)). IsConfigured rows iface)
       (sym (opened.stands.now.edited
-      ∙ ap (λ (n : ℕ). kinds_after (take n []) config.interfaces) opened.stands.counted)) is;
+      ∙ ap (λ (n : ℕ). kinds_after (take n []) begun.settings.interfaces) opened.stands.counted)) is;
 }
 
-pub number_opened : (config : Settings) (control : ControlState) → IsOpened config run_limits control
+pub number_opened : (begun : Opening) (control : ControlState) → IsOpened begun run_limits control
     → last_number control.marks ≡ 0
-number_opened config control opened = ap last_number opened.marks
+number_opened begun control opened = ap last_number opened.marks

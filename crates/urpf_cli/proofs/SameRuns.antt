@@ -7,6 +7,8 @@ use Rattle.urpf_base.specs.Address.{Block}
 use Rattle.urpf_base.specs.Lists.{Has}
 use Rattle.urpf_base.specs.declared.cells.Cell.{Cell}
 use Rattle.urpf_base.specs.declared.kinds.Kind.{Kind}
+use Rattle.origin_pairs.specs.Pairs.{AreSamePairs}
+use Rattle.roa_irr.specs.Tables.{Table}
 use Rattle.router_config.specs.Settings.{Settings}
 use Rattle.rpf_plain.specs.Cells.{IsCell}
 use Rattle.rpf_plain.specs.World.{World, roles_of}
@@ -16,8 +18,9 @@ use Rattle.report_text.specs.Lines.{end_line}
 use Rattle.session_fsm.specs.declared.items.Effect.{Effect}
 use Rattle.control_core.specs.Effects.{Holds}
 use Rattle.control_core.specs.Pulls.{reset_lines}
-use Rattle.control_core.specs.Worlds.{IsRowOfAny, Position, kinds_after}
+use Rattle.control_core.specs.Worlds.{IsRowOfAny, Position, kinds_after, pairs_after}
 use Rattle.urpf_cli.specs.Inputs.{Input, Run}
+use Rattle.urpf_cli.specs.PairTables.{pairs_in}
 use Rattle.urpf_cli.specs.Places.{Place, Reached, next_place, place_after, pulled, pulled_of, reached_at}
 use Rattle.urpf_cli.specs.RunText.{IsWorldOf, pull_text_of}
 use Rattle.urpf_cli.specs.Steps.{Step, pull, publish, round, check, change, summary}
@@ -28,9 +31,10 @@ pub record AreAlike (one other : Input) : Type 0 where
   pub effects : one.course.effects ≡ other.course.effects
   pub rest : one.rest ≡ other.rest
 
--- two runs are configured alike, and so are their sessions
+-- two runs are configured alike, begin with the same pairs, and their sessions are alike
 pub record RunsAlike (run other : Run) : Type 0 where
   pub config : run.config ≡ other.config
+  pub table : run.table ≡ other.table
   pub inputs : AllZip AreAlike run.inputs other.inputs
 
 -- a run is like itself
@@ -39,7 +43,7 @@ all_alike [] = tt
 all_alike (input ∷ inputs) = (record { config = refl; effects = refl; rest = refl }, all_alike inputs)
 
 pub itself : (run : Run) → RunsAlike run run
-itself run = record { config = refl; inputs = all_alike run.inputs }
+itself run = record { config = refl; table = refl; inputs = all_alike run.inputs }
 
 alike_back : (xs ys : List Input) → AllZip AreAlike xs ys → AllZip AreAlike ys xs
 alike_back [] [] alike = tt
@@ -82,15 +86,21 @@ module _ (run other : Run) (alike : RunsAlike run other) (place : Place) (mark :
         r ((is.rows r).0 h)),
   )
 
-  pub same_pairs : v.pairs ≡ w.pairs
-  same_pairs = was.pairs ∙ sym is.pairs
+  -- the pairs of one mark
+  pub same_pairs : AreSamePairs v.pairs w.pairs
+  same_pairs p =
+      let told = subst (λ (t : Option Table). Has v.pairs p ↔ Has (pairs_after (take mark.edits place.edits)
+      (pairs_in t)) p)
+      alike.table (was.pairs.members p) in
+      let back = is.pairs.members p in (λ h. back.1 (told.0 h), λ h. told.1 (back.0 h))
 
   -- the cells of one mark
   pub same_cells : (p : Block) (c : Cell) → IsCell v p c ↔ IsCell w p c
   same_cells p c =
       let roles : v.roles ≡ w.roles = was.roles ∙ ap roles_of same_kinds ∙ sym is.roles in (
         same_members v w same_rows roles same_pairs p c,
-        same_members w v (λ r. ((same_rows r).1, (same_rows r).0)) (sym roles) (sym same_pairs) p c,
+        same_members w v (λ r. ((same_rows r).1, (same_rows r).0)) (sym roles)
+            (λ q. ((same_pairs q).1, (same_pairs q).0)) p c,
       )
 
 -- sessions that may not be there are alike

@@ -6,19 +6,23 @@ use Rattle.rpf_plain.proofs.Differing.{some_difference}
 use Rattle.rpf_plain.proofs.Verdicts.{some_verdict}
 use Rattle.runbook.specs.declared.lines.BookLine.{BookLine}
 use Rattle.report_text.specs.Lines.{check_line, done_line, publish_line, round_line, summary_line}
+use Rattle.control_core.specs.Worlds.{pairs_after}
 use Rattle.control_core.proofs.SomeRun.{all_listed}
-use Rattle.urpf_cli.specs.Inputs.{Input, Run, courses_of}
+use Rattle.origin_pairs.proofs.Sets.{some_set}
+use Rattle.urpf_cli.specs.Inputs.{Input, Run, courses_of, opening_of}
+use Rattle.urpf_cli.specs.PairTables.{pairs_in, skipped_in}
 use Rattle.urpf_cli.specs.Places.{Place, Reached, items_at, mark_at, next_place, opening, reached_at}
-use Rattle.urpf_cli.specs.RunText.{CheckGives, GiveAll, Gives, IsRunText, LeaveRoutes, PublishGives, head_text}
-use Rattle.urpf_cli.specs.RunText.{last_place, pull_text_of, steps_for}
+use Rattle.urpf_cli.specs.RunText.{CheckGives, GiveAll, Gives, IsHead, IsRunText, LeaveRoutes, PublishGives}
+use Rattle.urpf_cli.specs.RunText.{head_text, last_place, pull_text_of, steps_for}
+use Rattle.urpf_cli.specs.declared.run.Totals.{Totals}
 use Rattle.urpf_cli.specs.Steps.{Step, pull, publish, round, check, change, summary}
 use Rattle.urpf_cli.proofs.SomeWorld.{some_world}
 
 some_publication : (run : Run) (place : Place) → (text : List ℕ) × PublishGives run place text
 some_publication run place =
     let number : ℕ = place.mark.number + 1 in
-    let (old_kinds, old, was) = some_world run.config place.edits (courses_of run) place.mark in
-    let (new_kinds, new, is) = some_world run.config place.edits (courses_of run) (mark_at place number) in
+    let (old_kinds, old, was) = some_world (opening_of run) place.edits (courses_of run) place.mark in
+    let (new_kinds, new, is) = some_world (opening_of run) place.edits (courses_of run) (mark_at place number) in
     let (changes, difference) = some_difference old new in (
       publish_line number (length place.edits) (length changes) (items_at place),
       record {
@@ -37,7 +41,7 @@ some_publication run place =
 some_check : (run : Run) (place : Place) (iface : ℕ) (addr : Addr)
     → (text : List ℕ) × CheckGives run place iface addr text
 some_check run place iface addr =
-    let (kinds, world, is) = some_world run.config place.edits (courses_of run) place.mark in
+    let (kinds, world, is) = some_world (opening_of run) place.edits (courses_of run) place.mark in
     let (verdict, judges) = some_verdict kinds world.rows world.pairs iface (Some addr) in (
       check_line iface addr verdict place.mark.number,
       record { kinds = kinds; world = world; is = is; verdict = verdict; judges = judges; same = refl },
@@ -69,7 +73,10 @@ some_gives run place (check iface addr) = some_check run place iface addr
 some_gives run place (change edit) = ([], refl)
 some_gives run place summary =
     let (count, left) = some_left run.inputs place.sessions in
-    (summary_line count 0, record { count = count; left = left; same = refl })
+    let (pairs, set) = some_set (pairs_after place.edits (pairs_in run.table)) in (
+      summary_line count (length pairs),
+      record { count = count; left = left; pairs = pairs; set = set; same = refl },
+    )
 
 -- so have all steps, one after the other
 pub some_texts : (run : Run) (place : Place) (steps : List Step)
@@ -80,10 +87,36 @@ some_texts run place (step ∷ steps) =
     let (rest, give) = some_texts run (next_place run.inputs step place) steps in
     (first ∷ rest, (gives, give))
 
--- and so has a run
+-- a run has a head
+pub some_head : (run : Run) → (head : List ℕ) × IsHead run head
+some_head run =
+    let (set, is) = some_set (pairs_in run.table) in
+    let totals : Totals = record {
+      interfaces = length run.config.interfaces;
+      sessions = length run.config.sessions;
+      pairs = length set;
+      skipped = skipped_in run.table;
+    } in (
+      head_text totals run.config.sessions,
+      record {
+        totals = totals;
+        are = record { interfaces = refl; sessions = refl; set = set; is = is; pairs = refl; skipped = refl };
+        same = refl;
+      },
+    )
+
+-- a run with this head has a text
+pub text_with : (run : Run) (lines : List BookLine) (head : List ℕ) → IsHead run head
+    → (rest : List ℕ) × IsRunText run lines (head ++ rest)
+text_with run lines head is =
+    let (texts, given) = some_texts run (opening run.config.sessions) (steps_for run lines) in (
+      concat texts ++ done_line (last_place run lines).mark.number 0,
+      record { head = head; is_head = is; texts = texts; given = given; parts = refl },
+    )
+
+-- each run has one
 pub some_text : (run : Run) (lines : List BookLine) → (text : List ℕ) × IsRunText run lines text
 some_text run lines =
-    let (texts, given) = some_texts run (opening run.config.sessions) (steps_for run lines) in (
-      head_text run.config ++ (concat texts ++ done_line (last_place run lines).mark.number 0),
-      record { texts = texts; given = given; parts = refl },
-    )
+    let (head, is) = some_head run in
+    let (rest, whole) = text_with run lines head is in
+    (head ++ rest, whole)

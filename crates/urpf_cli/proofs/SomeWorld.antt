@@ -5,7 +5,6 @@ use Rattle.urpf_base.specs.Address.{Block}
 use Rattle.urpf_base.specs.Lists.{Has}
 use Rattle.urpf_base.specs.declared.kinds.Kind.{Kind}
 use Rattle.urpf_base.proofs.Membership.{has_or_not}
-use Rattle.router_config.specs.Settings.{Settings}
 use Rattle.router_config.specs.declared.edits.Edit.{Edit}
 use Rattle.rpf_plain.specs.World.{World, world_for}
 use Rattle.rpf_plain.specs.declared.rows.Row.{Row}
@@ -13,7 +12,8 @@ use Rattle.rpf_plain.proofs.Members.{has_append}
 use Rattle.session_fsm.specs.declared.items.Effect.{Effect}
 use Rattle.session_fsm.specs.declared.items.Effect.TheVariants.{Nothing, Advanced, Reset, Changes}
 use Rattle.control_core.specs.Effects.{Announces, Holds, Leaves}
-use Rattle.control_core.specs.Worlds.{Course, IsRowOfAny, IsWorldAt, Position, kinds_after}
+use Rattle.control_core.specs.Worlds.{Course, IsRowOfAny, IsWorldAt, Opening, Position, kinds_after, pairs_after}
+use Rattle.origin_pairs.proofs.Sets.{some_set}
 
 -- these are just the rows of which this holds
 abbrev AreJust : List Row → (Row → Type 0) → Type 0
@@ -153,9 +153,10 @@ some_rows (course ∷ courses) (count ∷ counts) =
     )
 
 -- there are kinds and a world at each position
-pub some_world : (opening : Settings) (edits : List Edit) (courses : List Course) (at : Position)
+pub some_world : (opening : Opening) (edits : List Edit) (courses : List Course) (at : Position)
     → (kinds : List (ℕ × Kind)) × (world : World) × IsWorldAt opening edits courses at kinds world
 some_world opening edits courses at =
-    let kinds : List (ℕ × Kind) = kinds_after (take at.edits edits) opening.interfaces in
+    let kinds : List (ℕ × Kind) = kinds_after (take at.edits edits) opening.settings.interfaces in
+    let (pairs, set) = some_set (pairs_after (take at.edits edits) opening.pairs) in
     let (rows, just) = some_rows courses at.items in
-    (kinds, world_for kinds rows [], record { edited = refl; roles = refl; pairs = refl; rows = just })
+    (kinds, world_for kinds rows pairs, record { edited = refl; roles = refl; pairs = set; rows = just })

@@ -1,8 +1,8 @@
 -- What the steps of a run that are no pulls give, and where they lead.
-use Rattle.std.proofs.Common.{◌≡◌, ℕ, ◌+◌, false, List, [], ◌∷◌, ◌++◌, length, map, take, Option, refl}
+use Rattle.std.proofs.Common.{◌≡◌, ℕ, ◌+◌, false, List, [], ◌∷◌, ◌++◌, length, map, take, Option, refl, arith}
 use Rattle.std.proofs.Common.{sym, ap, subst, ◌∙◌}
 use Rattle.std.specs.List.{AllZip}
-use Rattle.std.proofs.lemmas.List.{take_at}
+use Rattle.std.proofs.lemmas.List.{take_all, take_at}
 use Rattle.std.proofs.lemmas.List.Sums.{sum_by-cons}
 use Rattle.urpf_base.specs.declared.address.Addr.{Addr}
 use Rattle.urpf_base.specs.declared.verdicts.Verdict.{Verdict}
@@ -10,6 +10,7 @@ use Rattle.adj_rib.specs.Routes.{prefixes_of}
 use Rattle.feed_io.specs.Events.{Event}
 use Rattle.report_text.specs.Lines.{check_line, publish_line, summary_line}
 use Rattle.urpf_base.specs.declared.kinds.Kind.{Kind}
+use Rattle.origin_pairs.specs.Pairs.{IsPairSet}
 use Rattle.router_config.proofs.Configured.{edited_kind_at}
 use Rattle.router_config.specs.Configured.{IsConfigured}
 use Rattle.router_config.specs.Settings.{Settings}
@@ -19,10 +20,11 @@ use Rattle.control_core.specs.Controls.{AllStand, ControlStandsFor, Edits, IsVer
 use Rattle.control_core.specs.Controls.{items_of, position_of, route_count}
 use Rattle.control_core.specs.Effects.{HoldsSoMany}
 use Rattle.control_core.specs.States.{ControlState, PeerState}
-use Rattle.control_core.specs.Worlds.{Course, IsWorldAt, Position, last_number}
+use Rattle.control_core.specs.Worlds.{Course, IsWorldAt, Position, last_number, pairs_after}
 use Rattle.control_core.proofs.Held.{holds_so_many}
 use Rattle.control_core.proofs.Publications.{at_most_self}
-use Rattle.urpf_cli.specs.Inputs.{Input, Run}
+use Rattle.urpf_cli.specs.Inputs.{Input, Run, opening_of}
+use Rattle.urpf_cli.specs.PairTables.{pairs_in}
 use Rattle.urpf_cli.specs.Places.{Place, Reached, mark_at, next_place}
 use Rattle.urpf_cli.specs.RunText.{CheckGives, IsWorldOf, LeaveRoutes, PublishGives, SummaryGives}
 use Rattle.urpf_cli.specs.Runs.{AreSessionsAt, IsAt, Serves}
@@ -34,7 +36,7 @@ use Rattle.urpf_cli.proofs.WorldsOf.{fronts_at, mark_reached, mark_same, number_
 pub published_gives : (run : Run) (place : Place) (old new : ControlState) (rounds : ℕ)
     (lefts : List (Option (List Event))) (answer : ℕ × ℕ) (text : List ℕ)
     → (s : IsAt run place old rounds lefts) → Publishes old new answer
-    → PublishesDifference run.config place.edits s.courses old new answer
+    → PublishesDifference (opening_of run) place.edits s.courses old new answer
     → text ≡ publish_line answer.0 old.edits answer.1 (items_of old.peers) → PublishGives run place text
 published_gives run place old new rounds lefts answer text s publishes d is =
     let last : d.last ≡ place.mark = one_last old.marks d.earlier s.earlier d.last place.mark d.marks s.marks in
@@ -47,7 +49,8 @@ published_gives run place old new rounds lefts answer text s publishes d is =
       old = d.before;
       was = world_whole run place old rounds lefts place.mark old.published.kinds d.before s
           (mark_reached run place old rounds lefts s)
-          (subst (λ (mark : Position). IsWorldAt run.config place.edits s.courses mark old.published.kinds d.before)
+          (subst (λ (mark : Position). IsWorldAt (opening_of run) place.edits s.courses mark old.published.kinds
+          d.before)
           last d.was);
       new_kinds = new.published.kinds;
       new = d.after;
@@ -67,7 +70,7 @@ published_gives run place old new rounds lefts answer text s publishes d is =
 pub published_at : (run : Run) (place : Place) (old new : ControlState) (rounds : ℕ)
     (lefts : List (Option (List Event))) (answer : ℕ × ℕ)
     → (s : IsAt run place old rounds lefts) → Publishes old new answer
-    → ControlStandsFor run.config place.edits s.courses new → new.exhausted ≡ false
+    → ControlStandsFor (opening_of run) place.edits s.courses new → new.exhausted ≡ false
     → IsAt run (next_place run.inputs publish place) new rounds lefts
 published_at run place old new rounds lefts answer s publishes stands able =
     let number : answer.0 ≡ place.mark.number + 1 =
@@ -101,7 +104,7 @@ check_gives run place control rounds lefts iface addr verdict number text s judg
       world = s.stands.marked;
       is = world_whole run place control rounds lefts place.mark control.published.kinds s.stands.marked s
           (mark_reached run place control rounds lefts s)
-          (subst (λ (mark : Position). IsWorldAt run.config place.edits s.courses mark control.published.kinds
+          (subst (λ (mark : Position). IsWorldAt (opening_of run) place.edits s.courses mark control.published.kinds
           s.stands.marked) last s.stands.is_marked);
       verdict = verdict;
       judges = judges;
@@ -138,18 +141,23 @@ leave_routes (i ∷ inputs) (a ∷ sessions) (c ∷ courses) (p ∷ peers) (l �
 -- what a summary gives
 pub summary_gives : (run : Run) (place : Place) (control : ControlState) (rounds : ℕ)
     (lefts : List (Option (List Event))) (text : List ℕ) → IsAt run place control rounds lefts
-    → text ≡ summary_line (route_count control.peers) 0 → SummaryGives run place text
+    → text ≡ summary_line (route_count control.peers) (length control.engine.world.pairs)
+    → SummaryGives run place text
 summary_gives run place control rounds lefts text s is = record {
   count = route_count control.peers;
   left = leave_routes run.inputs place.sessions s.courses control.peers lefts
       (fronts_at run place control rounds lefts s) s.sessions s.stands.stand;
+  pairs = control.engine.world.pairs;
+  set = subst (λ (edits : List Edit). IsPairSet (pairs_after edits (pairs_in run.table)) control.engine.world.pairs)
+      (ap (λ (n : ℕ). take n place.edits) s.stands.counted ∙ take_all (length place.edits) place.edits (omega arith))
+      s.stands.now.pairs;
   same = is;
 }
 
 -- where an edit leads
 pub changed_at : (run : Run) (place : Place) (edit : Edit) (old new : ControlState) (rounds : ℕ)
     (lefts : List (Option (List Event))) → (s : IsAt run place old rounds lefts) → Edits edit old new
-    → ControlStandsFor run.config (place.edits ++ edit ∷ []) s.courses new → new.exhausted ≡ false
+    → ControlStandsFor (opening_of run) (place.edits ++ edit ∷ []) s.courses new → new.exhausted ≡ false
     → IsAt run (next_place run.inputs (change edit) place) new rounds lefts
 changed_at run place edit old new rounds lefts s edits stands able = record {
   whole = s.whole;

@@ -11,7 +11,7 @@ use Rattle.control_core.specs.Controls.{AreAtMost, items_of, position_of}
 use Rattle.control_core.specs.States.{ControlState}
 use Rattle.control_core.specs.Worlds.{IsWorldAt, Position, last_number}
 use Rattle.control_core.proofs.LastMarks.{last_number-push}
-use Rattle.urpf_cli.specs.Inputs.{Run}
+use Rattle.urpf_cli.specs.Inputs.{Run, opening_of}
 use Rattle.urpf_cli.specs.Places.{Place, mark_at}
 use Rattle.urpf_cli.specs.RunText.{IsWorldOf}
 use Rattle.urpf_cli.specs.Runs.{IsAt}
@@ -36,7 +36,7 @@ mark_same run place control rounds lefts number s =
 pub world_whole : (run : Run) (place : Place) (control : ControlState) (rounds : ℕ)
     (lefts : List (Option (List Event))) (mark : Position) (kinds : List (ℕ × Kind)) (world : World)
     → (s : IsAt run place control rounds lefts) → AreAtMost mark.items (items_of control.peers)
-    → IsWorldAt run.config place.edits s.courses mark kinds world → IsWorldOf run place mark kinds world
+    → IsWorldAt (opening_of run) place.edits s.courses mark kinds world → IsWorldOf run place mark kinds world
 world_whole run place control rounds lefts mark kinds world s most w = record {
   edited = w.edited;
   roles = w.roles;

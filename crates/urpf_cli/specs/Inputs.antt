@@ -1,4 +1,5 @@
--- What a run reads: its configuration and, of each session, all that its feed gives (RFC 4271, sections 3.2 and 8).
+-- What a run reads: its configuration, its table of pairs and, of each session, all that its feed gives (RFC 4271,
+-- sections 3.2 and 8).
 use Rattle.std.specs.Prelude.{◌≡◌, ℕ, List, length, map, Option, Some}
 use Rattle.std.specs.List.{AllZip}
 use Rattle.urpf_base.specs.declared.sessions.SessionConfig.{SessionConfig}
@@ -7,7 +8,9 @@ use Rattle.router_config.specs.Settings.{Settings}
 use Rattle.session_fsm.specs.declared.states.State.{State}
 use Rattle.control_core.specs.Items.{AreItems, IsRest, Item}
 use Rattle.control_core.specs.Runs.{Runs}
-use Rattle.control_core.specs.Worlds.{Course}
+use Rattle.control_core.specs.Worlds.{Course, Opening}
+use Rattle.roa_irr.specs.Tables.{Table}
+use Rattle.urpf_cli.specs.PairTables.{pairs_in}
 
 -- a session as a whole: its configuration, all events of its feed, the effects of their items, and how many octets are
 -- left behind the last of them
@@ -28,10 +31,15 @@ pub record IsInput (config : SessionConfig) (input : Input) : Type 0 where
 abbrev pub total : Input → ℕ
 total input = length input.course.effects
 
--- a configuration, and its sessions as wholes
+-- a configuration, its table of pairs where there is one, and its sessions as wholes
 pub record Run : Type 0 where
   pub config : Settings
+  pub table : Option Table
   pub inputs : List Input
+
+-- the interfaces, the sessions and the pairs that a run begins with
+abbrev pub opening_of : Run → Opening
+opening_of run = record { settings = run.config; pairs = pairs_in run.table }
 
 -- there is one for each session that is configured
 abbrev pub IsRun : Run → Type 0

@@ -4,6 +4,7 @@ pub mod Limits
 pub mod Offline
 pub mod Openings
 pub mod Outputs
+pub mod PairTables
 pub mod Places
 pub mod RunText
 pub mod Runs
@@ -11,4 +12,5 @@ pub mod Session
 pub mod StatusText
 pub mod Statuses
 pub mod Steps
+pub mod TextRefusals
 pub mod Words

@@ -6,20 +6,25 @@ use Rattle.std.specs.List.{concat}
 use Rattle.urpf_base.specs.declared.address.Addr.{Addr}
 use Rattle.urpf_base.specs.declared.cells.CellChange.{CellChange}
 use Rattle.urpf_base.specs.declared.kinds.Kind.{Kind}
+use Rattle.urpf_base.specs.declared.sessions.SessionConfig.{SessionConfig}
 use Rattle.urpf_base.specs.declared.verdicts.Verdict.{Verdict}
 use Rattle.rpf_plain.specs.Cells.{IsDifference}
 use Rattle.rpf_plain.specs.Modes.{IsVerdict}
 use Rattle.rpf_plain.specs.World.{World}
+use Rattle.origin_pairs.specs.Pairs.{IsPairSet, Pair}
+use Rattle.roa_irr.specs.Tables.{Table}
 use Rattle.router_config.specs.Settings.{Settings}
 use Rattle.runbook.specs.declared.lines.BookLine.{BookLine}
 use Rattle.report_text.specs.Lines.{check_line, done_line, end_line, publish_line, round_line, run_line, summary_line}
 use Rattle.control_core.specs.Effects.{HoldsSoMany}
 use Rattle.control_core.specs.Pulls.{reset_lines}
-use Rattle.control_core.specs.Worlds.{IsWorldAt, Position}
-use Rattle.urpf_cli.specs.Inputs.{Input, Run, courses_of, total}
+use Rattle.control_core.specs.Worlds.{IsWorldAt, Position, pairs_after}
+use Rattle.urpf_cli.specs.Inputs.{Input, Run, courses_of, opening_of, total}
+use Rattle.urpf_cli.specs.PairTables.{pairs_in, skipped_in}
 use Rattle.urpf_cli.specs.Places.{Place, Reached, items_at, mark_at, next_place, opening, place_after, pulled}
 use Rattle.urpf_cli.specs.Places.{reached_at}
 use Rattle.urpf_cli.specs.Steps.{Step, pull, publish, round, check, change, summary, steps_of}
+use Rattle.urpf_cli.specs.declared.run.Totals.{Totals}
 
 -- the lines of the resets among the items of a session from one number on up to another
 abbrev pub resets : ℕ → Input → ℕ → ℕ → List ℕ
@@ -41,7 +46,7 @@ pull_text_of session (Some input) count at = pull_text session input at (pulled 
 
 -- these are the kinds and the world of a mark that the run makes, or made
 abbrev pub IsWorldOf : Run → Place → Position → List (ℕ × Kind) → World → Type 0
-IsWorldOf run place mark kinds world = IsWorldAt run.config place.edits (courses_of run) mark kinds world
+IsWorldOf run place mark kinds world = IsWorldAt (opening_of run) place.edits (courses_of run) mark kinds world
 
 -- what a publication writes: its number, and how many prefixes have another cell than at the last mark
 pub record PublishGives (run : Run) (place : Place) (text : List ℕ) : Type 0 where
@@ -73,11 +78,13 @@ LeaveRoutes (input ∷ inputs) (at ∷ sessions) count =
     (own : ℕ) × (others : ℕ) × HoldsSoMany (take at.taken input.course.effects) own
     × LeaveRoutes inputs sessions others × (count ≡ own + others)
 
--- what a summary writes: the routes of now; there are no pairs yet
+-- what a summary writes: how many routes and how many pairs there are now
 pub record SummaryGives (run : Run) (place : Place) (text : List ℕ) : Type 0 where
   pub count : ℕ
   pub left : LeaveRoutes run.inputs place.sessions count
-  pub same : text ≡ summary_line count 0
+  pub pairs : List Pair
+  pub set : IsPairSet (pairs_after place.edits (pairs_in run.table)) pairs
+  pub same : text ≡ summary_line count (length pairs)
 
 -- what one step writes at a place
 abbrev pub Gives : Run → Place → Step → List ℕ → Type 0
@@ -97,11 +104,26 @@ GiveAll run place (step ∷ steps) [] = ⊥
 GiveAll run place (step ∷ steps) (text ∷ texts) =
     Gives run place step text × GiveAll run (next_place run.inputs step place) steps texts
 
--- the run line and the line of publication 0; there are no pairs yet
-abbrev pub head_text : Settings → List ℕ
-head_text config =
-    run_line (length config.interfaces) (length config.sessions) 0 0
-    ++ publish_line 0 0 0 (map (λ s. 0) config.sessions)
+-- how much a run begins with: its interfaces, its sessions, its pairs, each once, and what its table skipped
+pub record AreTotals (config : Settings) (table : Option Table) (totals : Totals) : Type 0 where
+  pub interfaces : totals.interfaces ≡ length config.interfaces
+  pub sessions : totals.sessions ≡ length config.sessions
+  pub set : List Pair
+  pub is : IsPairSet (pairs_in table) set
+  pub pairs : totals.pairs ≡ length set
+  pub skipped : totals.skipped ≡ skipped_in table
+
+-- the run line and the line of publication 0
+abbrev pub head_text : Totals → List SessionConfig → List ℕ
+head_text totals sessions =
+    run_line totals.interfaces totals.sessions totals.pairs totals.skipped
+    ++ publish_line 0 0 0 (map (λ s. 0) sessions)
+
+-- the text is the head of a run
+pub record IsHead (run : Run) (text : List ℕ) : Type 0 where
+  pub totals : Totals
+  pub are : AreTotals run.config run.table totals
+  pub same : text ≡ head_text totals run.config.sessions
 
 -- the steps of a run of these lines
 abbrev pub steps_for : Run → List BookLine → List Step
@@ -113,7 +135,8 @@ last_place run lines = place_after run.inputs (steps_for run lines) (opening run
 
 -- the text is a run of these lines: the head, what each step writes, and the closing line; there are no packets yet
 pub record IsRunText (run : Run) (lines : List BookLine) (text : List ℕ) : Type 0 where
+  pub head : List ℕ
+  pub is_head : IsHead run head
   pub texts : List (List ℕ)
   pub given : GiveAll run (opening run.config.sessions) (steps_for run lines) texts
-  pub parts : text
-      ≡ head_text run.config ++ (concat texts ++ done_line (last_place run lines).mark.number 0)
+  pub parts : text ≡ head ++ (concat texts ++ done_line (last_place run lines).mark.number 0)

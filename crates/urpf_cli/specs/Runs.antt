@@ -17,7 +17,7 @@ use Rattle.control_core.specs.Controls.{ControlStandsFor}
 use Rattle.control_core.specs.Items.{SameButCuts, octet_count}
 use Rattle.control_core.specs.States.{ControlState, PeerState}
 use Rattle.control_core.specs.Worlds.{Course, Position, last_number}
-use Rattle.urpf_cli.specs.Inputs.{Input, IsRun, Run, total}
+use Rattle.urpf_cli.specs.Inputs.{Input, IsRun, Run, opening_of, total}
 use Rattle.urpf_cli.specs.Limits.{FillsItems, FillsNone, FillsOctets, OfGiven, PullFillsItems, PullFillsOctets}
 use Rattle.urpf_cli.specs.Limits.{StepFills, asked_of}
 use Rattle.urpf_cli.specs.Places.{Place, Reached, next_place, place_after}
@@ -55,7 +55,7 @@ pub record IsAt (run : Run) (place : Place) (control : ControlState) (rounds : �
     (lefts : List (Option (List Event))) : Type 0 where
   pub whole : IsRun run
   pub courses : List Course
-  pub stands : ControlStandsFor run.config place.edits courses control
+  pub stands : ControlStandsFor (opening_of run) place.edits courses control
   pub sessions : AreSessionsAt run.inputs place.sessions courses control.peers lefts
   pub earlier : List Position
   pub marks : control.marks ≡ earlier ++ place.mark ∷ []

@@ -5,17 +5,18 @@ use Rattle.router_config.specs.declared.faults.ConfigKind.TheVariants as config
 use Rattle.runbook.specs.declared.lines.BookKind.{BookKind}
 use Rattle.runbook.specs.declared.lines.BookKind.TheVariants.{Syntax, Session, Iface, Rounds}
 use Rattle.urpf_cli.specs.declared.status.Object.{Object}
-use Rattle.urpf_cli.specs.declared.status.Object.TheVariants.{Config, Book, Stream}
+use Rattle.urpf_cli.specs.declared.status.Object.TheVariants.{Config, Book, Pairs, Stream}
 use Rattle.urpf_cli.specs.declared.status.Object.TheVariants as named
 use Rattle.urpf_cli.specs.declared.status.Status.{Status}
-use Rattle.urpf_cli.specs.declared.status.Status.TheVariants.{Done, Usage, BadConfig, BadBook, SessionCount, TooLong}
-use Rattle.urpf_cli.specs.declared.status.Status.TheVariants.{ReadFault, WriteFault, ItemLimit, OctetLimit, BadSession}
-use Rattle.urpf_cli.specs.declared.status.Status.TheVariants.{Unsupported, OutOfMemory}
+use Rattle.urpf_cli.specs.declared.status.Status.TheVariants.{Done, Usage, BadConfig, BadBook, SessionCount}
+use Rattle.urpf_cli.specs.declared.status.Status.TheVariants.{TooManyPairs, TooLong, ReadFault, WriteFault, ItemLimit}
+use Rattle.urpf_cli.specs.declared.status.Status.TheVariants.{OctetLimit, BadSession, Unsupported, OutOfMemory}
 
 -- what an object is called
 abbrev pub object_text : Object → List ℕ
 object_text Config = codes "config"
 object_text Book = codes "book"
+object_text Pairs = codes "pairs"
 object_text Stream = codes "stream"
 object_text (named.Session session) = codes "session " ++ decimal session
 
@@ -52,6 +53,7 @@ status_text (BadConfig kind index) = codes "config " ++ config_kind_text kind ++
 status_text (BadBook line kind) = codes "book line " ++ decimal line ++ codes " " ++ book_kind_text kind
 status_text (SessionCount given wanted) =
     decimal given ++ codes " sessions given, " ++ decimal wanted ++ codes " wanted"
+status_text TooManyPairs = codes "too many pairs"
 status_text (TooLong object) = object_text object ++ codes " too long"
 status_text (ReadFault object) = codes "read fault on " ++ object_text object
 status_text WriteFault = codes "write fault"
@@ -74,6 +76,7 @@ exit_of Usage = 2
 exit_of (BadConfig kind index) = 3
 exit_of (BadBook line kind) = 4
 exit_of (SessionCount given wanted) = 5
+exit_of TooManyPairs = 6
 exit_of (TooLong object) = 7
 exit_of (ReadFault object) = 8
 exit_of WriteFault = 9

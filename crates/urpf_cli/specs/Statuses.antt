@@ -6,20 +6,22 @@ use Rattle.control_core.specs.declared.limits.RunFault.{RunFault}
 use Rattle.control_core.specs.declared.limits.RunFault.TheVariants as fault
 use Rattle.urpf_cli.specs.CheckOne.{CheckEnd, judged, unreadable}
 use Rattle.urpf_cli.specs.CheckOne as check
-use Rattle.urpf_cli.specs.declared.opening.Refusal.{Refusal}
-use Rattle.urpf_cli.specs.declared.opening.Refusal.TheVariants as opening
-use Rattle.urpf_cli.specs.declared.opening.TextRefusal.{TextRefusal}
-use Rattle.urpf_cli.specs.declared.opening.TextRefusal.TheVariants as text
+use Rattle.urpf_cli.specs.declared.refusals.Refusal.{Refusal}
+use Rattle.urpf_cli.specs.declared.refusals.Refusal.TheVariants as opening
+use Rattle.urpf_cli.specs.declared.refusals.TextRefusal.{TextRefusal}
+use Rattle.urpf_cli.specs.declared.refusals.TextRefusal.TheVariants as text
+use Rattle.urpf_cli.specs.declared.refusals.TooManyPairs.{TooManyPairs}
 use Rattle.urpf_cli.specs.Runs.{NamesSession}
 use Rattle.urpf_cli.specs.declared.session.SessionFault.{SessionFault}
 use Rattle.urpf_cli.specs.declared.session.SessionFault.TheVariants as stream
 use Rattle.bgp_update.specs.declared.subcodes.TheConstants.{UPDATE_MESSAGE_ERROR}
 use Rattle.bgp_wire.specs.declared.header.TheConstants.{MESSAGE_HEADER_ERROR}
-use Rattle.urpf_cli.specs.declared.status.Object.TheVariants.{Config, Book, Stream, Session}
+use Rattle.urpf_cli.specs.declared.status.Object.TheVariants.{Config, Book, Pairs, Stream, Session}
 use Rattle.urpf_cli.specs.declared.status.Status.{Status}
 use Rattle.urpf_cli.specs.declared.status.Status.TheVariants.{Done, Usage, BadConfig, BadBook, SessionCount, TooLong}
 use Rattle.urpf_cli.specs.declared.status.Status.TheVariants.{ReadFault, WriteFault, ItemLimit, OctetLimit}
 use Rattle.urpf_cli.specs.declared.status.Status.TheVariants.{BadSession, Unsupported, OutOfMemory}
+use Rattle.urpf_cli.specs.declared.status.Status.TheVariants as status
 
 -- a message that cannot be read: error code 1 is of a header, 3 of an UPDATE (RFC 4271, section 4.5)
 abbrev pub status_of_stream : SessionFault → Status
@@ -54,11 +56,19 @@ status_of_book text.TooLong = TooLong Book
 status_of_book (text.Bad fault) = BadBook fault.line fault.kind
 status_of_book text.OutOfMemory = OutOfMemory
 
+-- why a table of pairs is refused
+abbrev pub status_of_pairs : TextRefusal TooManyPairs → Status
+status_of_pairs text.ReadFault = ReadFault Pairs
+status_of_pairs text.TooLong = TooLong Pairs
+status_of_pairs (text.Bad fault) = status.TooManyPairs
+status_of_pairs text.OutOfMemory = OutOfMemory
+
 -- why a run does not begin
 abbrev pub status_of_refusal : Refusal → Status
 status_of_refusal opening.Misused = Usage
 status_of_refusal (opening.Config refusal) = status_of_config refusal
 status_of_refusal (opening.Book refusal) = status_of_book refusal
+status_of_refusal (opening.Pairs refusal) = status_of_pairs refusal
 status_of_refusal (opening.SessionCount given wanted) = SessionCount given wanted
 
 -- what a run came to

@@ -1,17 +1,19 @@
-//! `offline CONFIG BOOK none S...`: runs a runbook over the feeds of the sessions of a configuration.
-ghost use Rattle.std.specs.Prelude.{◌≡◌, ◌↔◌, ◌⊎◌, ℕ, List, Result, Some, length, map, string_bytes};
+//! `offline CONFIG BOOK PAIRS S...`: runs a runbook over a table of pairs and the feeds of the sessions
+//! of a configuration.
+ghost use Rattle.std.specs.Prelude.{◌≡◌, ◌↔◌, ◌⊎◌, List, Result, Some, length, map, string_bytes};
 ghost use Rattle.urpf_base.specs.Faults.{CountsFault, Rose};
 ghost use Rattle.feed_io.specs.Events.{Event};
 ghost use Rattle.control_core.specs.declared.limits.RunFault.{RunFault};
 ghost use Rattle.control_core.specs.Turns.{HadMemory};
-ghost use Rattle.urpf_cli.specs.declared.opening.Refusal.{Refusal};
+ghost use Rattle.urpf_cli.specs.declared.refusals.Refusal.{Refusal};
 ghost use Rattle.urpf_cli.specs.Offline.{IsBelowLimits, RanText, TookRunFront};
-ghost use Rattle.urpf_cli.specs.Openings.{IsDecided, IsRefused};
+ghost use Rattle.urpf_cli.specs.Openings.{AreTold, IsBeforePairs, IsDecided, IsRefused, Texts};
 ghost use Rattle.urpf_cli.specs.Runs.{CountEach, NoneRose};
 ghost use Rattle.urpf_cli.specs.Statuses.{IsRunStatus, status_of_refusal, status_of_run};
-ghost use Rattle.urpf_cli.specs.Words.{AreOfflineWords};
+ghost use Rattle.urpf_cli.specs.Words.{AreOfflineWords, nowhere};
 
-use crate::opening::{Opening, open_run, status_of_refusal};
+use crate::opening::{Opening, open_run};
+use crate::refusals::status_of_refusal;
 use crate::run::run_book;
 use crate::status::{Object, Status};
 use control_core::RunFault;
@@ -20,17 +22,20 @@ use std::alloc::Global;
 use urpf_base::{Sink, Source};
 
 /// Runs the book over the feeds of the configured sessions, one feed for each session word, and writes
-/// the text of the run. The words are those after the program's name. No pairs are read yet.
+/// the text of the run. The words are those after the program's name.
 ///
 /// The answers come in this order: the words; the read of the configuration or its length, and its
-/// first rule that is broken; the same of the book, and its first line that is refused; the number of
-/// sessions; and then the faults of the feeds and of the sink as the run meets them. Before the run
-/// begins no feed is asked and nothing is written.
+/// first rule that is broken; the same of the book, and its first line that is refused; the same of the
+/// table of pairs, and how many pairs it has; the number of sessions; and then the faults of the feeds
+/// and of the sink as the run meets them. Before the run begins no feed is asked and nothing is written.
+/// The table of pairs is not read before the book is, and not at all where the word of the pairs is
+/// `none`.
 pub fn offline<S: Source, F: Feed, K: Sink>(
     alloc: Global,
     words: &[String],
     config: &mut S,
     book: &mut S,
+    pairs: &mut S,
     feeds: &mut Vec<F>,
     out: &mut K,
 ) -> Status
@@ -42,50 +47,65 @@ pub fn offline<S: Source, F: Feed, K: Sink>(
         (S.faults config.old) (S.faults config.new) }
     ensures book { CountsFault (result ≡ Status.ReadFault Object.Book)
         (S.faults book.old) (S.faults book.new) }
+    ensures pairs { CountsFault (result ≡ Status.ReadFault Object.Pairs)
+        (S.faults pairs.old) (S.faults pairs.new) }
     ensures feeds { CountEach F.faults (λ s. result ≡ Status.ReadFault (Object.Session s))
         feeds.old.items feeds.new.items }
     ensures sink { CountsFault (result ≡ Status.WriteFault) (K.faults out.old) (K.faults out.new) }
     ensures known { IsRunStatus (length feeds.old.items) result }
 
     // Before the run.
-    ensures refused { (r : Refusal) (c b : List ℕ) → IsDecided r → result ≡ status_of_refusal r
-        → S.left config.old ≡ Some c → S.left book.old ≡ Some b
-        → IsRefused (map string_bytes words.now) c b (length feeds.old.items) r }
-    ensures refused_only { (r : Refusal) (c b : List ℕ)
-        → S.left config.old ≡ Some c → S.left book.old ≡ Some b
-        → IsRefused (map string_bytes words.now) c b (length feeds.old.items) r
+    ensures refused { (r : Refusal) (t : Texts) → IsDecided r → result ≡ status_of_refusal r
+        → AreTold (S.left config.old) (S.left book.old) (S.left pairs.old) t
+        → IsRefused (map string_bytes words.now) t (length feeds.old.items) r }
+    ensures refused_only { (r : Refusal) (t : Texts)
+        → AreTold (S.left config.old) (S.left book.old) (S.left pairs.old) t
+        → IsRefused (map string_bytes words.now) t (length feeds.old.items) r
         → ¬ Rose (S.faults config.old) (S.faults config.new)
         → ¬ Rose (S.faults book.old) (S.faults book.new)
+        → ¬ Rose (S.faults pairs.old) (S.faults pairs.new)
         → (result ≡ status_of_refusal r) ⊎ (result ≡ Status.OutOfMemory) }
     ensures untouched { (r : Refusal) → (status_of_refusal r ≡ Status.OutOfMemory → ⊥)
         → result ≡ status_of_refusal r → (feeds.new ≡ feeds.old) × (out.new ≡ out.old) }
+    ensures unread { (r : Refusal) → (status_of_refusal r ≡ Status.OutOfMemory → ⊥)
+        → result ≡ status_of_refusal r → IsBeforePairs r → pairs.new ≡ pairs.old }
+    ensures nowhere { (are : AreOfflineWords (map string_bytes words.now)) → are.pairs ≡ nowhere
+        → pairs.new ≡ pairs.old }
 
     // What a run comes to, and what the sink took of it.
-    ensures ran { (end : Result (Unit {0}) RunFault) (c b : List ℕ) (events : List (List Event))
+    ensures ran { (end : Result (Unit {0}) RunFault) (t : Texts) (events : List (List Event))
         → HadMemory end → result ≡ status_of_run end
-        → S.left config.old ≡ Some c → S.left book.old ≡ Some b → map F.left feeds.old.items ≡ map Some events
-        → RanText (map string_bytes words.now) c b events end (map F.left feeds.new.items)
+        → AreTold (S.left config.old) (S.left book.old) (S.left pairs.old) t
+        → map F.left feeds.old.items ≡ map Some events
+        → RanText (map string_bytes words.now) t events end (map F.left feeds.new.items)
         (K.held out.old) (K.held out.new) }
-    ensures memory { (c b : List ℕ) (events : List (List Event)) → result ≡ Status.OutOfMemory
-        → S.left config.old ≡ Some c → S.left book.old ≡ Some b → map F.left feeds.old.items ≡ map Some events
+    ensures memory { (t : Texts) (events : List (List Event)) → result ≡ Status.OutOfMemory
+        → AreTold (S.left config.old) (S.left book.old) (S.left pairs.old) t
+        → map F.left feeds.old.items ≡ map Some events
         → ((feeds.new ≡ feeds.old) × (out.new ≡ out.old))
-        ⊎ TookRunFront (map string_bytes words.now) c b events (K.held out.old) (K.held out.new) }
+        ⊎ TookRunFront (map string_bytes words.now) t events (K.held out.old) (K.held out.new) }
     // Where nothing fails and no limit is asked past, the run is done.
-    ensures done_only { (c b : List ℕ) (events : List (List Event))
-        → S.left config.old ≡ Some c → S.left book.old ≡ Some b → map F.left feeds.old.items ≡ map Some events
-        → IsBelowLimits (map string_bytes words.now) c b events
+    ensures done_only { (t : Texts) (events : List (List Event))
+        → AreTold (S.left config.old) (S.left book.old) (S.left pairs.old) t
+        → map F.left feeds.old.items ≡ map Some events
+        → IsBelowLimits (map string_bytes words.now) t events
         → ¬ Rose (S.faults config.old) (S.faults config.new)
         → ¬ Rose (S.faults book.old) (S.faults book.new)
+        → ¬ Rose (S.faults pairs.old) (S.faults pairs.new)
         → NoneRose F.faults feeds.old.items feeds.new.items
         → ¬ Rose (K.faults out.old) (K.faults out.new)
         → (result ≡ Status.Done) ⊎ (result ≡ Status.OutOfMemory) }
 {
-    let opening = match open_run(alloc, words, config, book, feeds.len()) {
+    let opening = match open_run(alloc, words, config, book, pairs, feeds.len()) {
         Ok(opening) => opening,
         Err(refusal) => return status_of_refusal(refusal),
     };
-    let Opening { config, book } = opening;
-    status_of_end(run_book(alloc, config, &book, feeds, out))
+    let Opening {
+        config,
+        book,
+        pairs,
+    } = opening;
+    status_of_end(run_book(alloc, config, &book, &pairs, feeds, out))
 }
 
 /// The status of a run.

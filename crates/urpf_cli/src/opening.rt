@@ -1,22 +1,26 @@
-//! What comes before a run: words, the sources of a configuration and a runbook, and a number of
-//! sessions come in, and what was read goes out, or why no run begins.
+//! What comes before a run: words, the sources of a configuration, a runbook and a table of pairs, and
+//! a number of sessions come in, and what was read goes out, or why no run begins.
 ghost use Rattle.std.specs.Prelude.{◌≡◌, ◌⊎◌, ◌↔◌, ℕ, Err, IfErr, IfOk, IfSome, List, Ok};
-ghost use Rattle.std.specs.Prelude.{◌≤◌, Some, length, map, string_bytes};
+ghost use Rattle.std.specs.Prelude.{◌≤◌, Option, Some, length, map, string_bytes};
 ghost use Rattle.std.specs.Result.{IsErrAnd};
 ghost use Rattle.urpf_base.specs.Faults.{CountsFault};
 ghost use Rattle.router_config.specs.declared.faults.ConfigFault.{ConfigFault};
 ghost use Rattle.router_config.specs.Settings.{Settings};
+ghost use Rattle.roa_irr.specs.Tables.{Table};
 ghost use Rattle.runbook.specs.Book.{AreConfiguredFor};
+ghost use Rattle.runbook.specs.declared.book.BookFault.{BookFault};
 ghost use Rattle.runbook.specs.declared.lines.BookLine.{BookLine};
-ghost use Rattle.urpf_cli.specs.declared.opening.Refusal.{Refusal};
-ghost use Rattle.urpf_cli.specs.declared.opening.TextRefusal.{TextRefusal};
-ghost use Rattle.urpf_cli.specs.Openings.{Configures, IsBookRefused, IsConfigRefused, IsDecided, IsFailure};
-ghost use Rattle.urpf_cli.specs.Openings.{IsReady, IsRefused, IsRunbook, IsTextFailure, Opens};
-ghost use Rattle.urpf_cli.specs.Statuses.{status_of_book, status_of_config, status_of_refusal};
-ghost use Rattle.urpf_cli.specs.Words.{AreOfflineWords};
+ghost use Rattle.urpf_cli.specs.declared.refusals.Refusal.{Refusal};
+ghost use Rattle.urpf_cli.specs.declared.refusals.TextRefusal.{TextRefusal};
+ghost use Rattle.urpf_cli.specs.Openings.{AreTold, Configures, IsBookRefused, IsConfigRefused, IsDecided, IsFailure};
+ghost use Rattle.urpf_cli.specs.Openings.{IsReady, IsRefused, IsRunbook, Opens, Texts};
+ghost use Rattle.urpf_cli.specs.TextRefusals.{IsTextFailure};
+ghost use Rattle.urpf_cli.specs.Words.{AreOfflineWords, nowhere};
 
-use crate::status::{Object, Status};
-use crate::words::asks_offline;
+use crate::pair_table::open_pairs;
+use crate::refusals::{Refusal, TextRefusal};
+use crate::words::asked_pairs;
+use roa_irr::Pairs;
 use router_config::{Config, ConfigFault, ReadConfig, read_config};
 use runbook::{Book, BookFault, ReadBook, read_book};
 use std::alloc::Global;
@@ -35,58 +39,35 @@ pub struct Opening {
     pub config: Config,
     /// The runbook, over that configuration.
     pub book: Book,
-}
-
-/// Why a text gives nothing to a run.
-#[derive(Clone, Copy)]
-pub enum TextRefusal<F> {
-    /// A read of the text failed.
-    ReadFault,
-    /// The text has more octets than its limit.
-    TooLong,
-    /// The text has this fault first.
-    Bad(F),
-    /// Memory could not be had.
-    OutOfMemory,
-}
-
-/// Why no run begins.
-#[derive(Clone, Copy)]
-pub enum Refusal {
-    /// The words fit no form of the command.
-    Misused,
-    /// The configuration is refused.
-    Config(TextRefusal<ConfigFault>),
-    /// The runbook is refused.
-    Book(TextRefusal<BookFault>),
-    /// So many sessions are given, and another number is configured, at most 128. A number given
-    /// that is above 4,294,967,295 is told as 4,294,967,295.
-    SessionCount { given: u32, wanted: u32 },
+    /// The table of pairs. None where the pairs come from nowhere.
+    pub pairs: Option<Pairs>,
 }
 
 /// What `offline` begins with, where so many sessions are given. What is refused is told in this
 /// order: the words; the read of the configuration or its length, and its first rule that is broken;
-/// the read of the runbook or its length, and its first line that is refused; the number of sessions.
+/// the read of the runbook or its length, and its first line that is refused; the read of the table of
+/// pairs or its length, and how many pairs it has; the number of sessions.
 pub fn open_run<S: Source>(
     alloc: Global,
     words: &[String],
     config: &mut S,
     book: &mut S,
+    pairs: &mut S,
     given: usize,
 ) -> Result<Opening, Refusal>
     ensures found { IfOk result (λ o. AreOfflineWords (map string_bytes words.now)
-        × ((c b : List ℕ) → S.left config.old ≡ Some c → S.left book.old ≡ Some b
-        → Opens (map string_bytes words.now) c b given o.config o.book)) }
-    ensures only { (c b : List ℕ) (settings : Settings) (rows : List (ℕ × BookLine))
-        → S.left config.old ≡ Some c → S.left book.old ≡ Some b
-        → Opens (map string_bytes words.now) c b given settings rows
-        → (result ≡ Ok (record { config = settings; book = rows })) ⊎ IsErrAnd result IsFailure }
-    ensures refused { IfErr result (λ r. IsDecided r → (c b : List ℕ)
-        → S.left config.old ≡ Some c → S.left book.old ≡ Some b
-        → IsRefused (map string_bytes words.now) c b given r) }
-    ensures refused_only { (r : Refusal) (c b : List ℕ)
-        → S.left config.old ≡ Some c → S.left book.old ≡ Some b
-        → IsRefused (map string_bytes words.now) c b given r
+        × ((t : Texts) → AreTold (S.left config.old) (S.left book.old) (S.left pairs.old) t
+        → Opens (map string_bytes words.now) t given o.config o.book o.pairs)) }
+    ensures only { (t : Texts) (settings : Settings) (rows : List (ℕ × BookLine)) (table : Option Table)
+        → AreTold (S.left config.old) (S.left book.old) (S.left pairs.old) t
+        → Opens (map string_bytes words.now) t given settings rows table
+        → (result ≡ Ok (record { config = settings; book = rows; pairs = table })) ⊎ IsErrAnd result IsFailure }
+    ensures refused { IfErr result (λ r. IsDecided r → (t : Texts)
+        → AreTold (S.left config.old) (S.left book.old) (S.left pairs.old) t
+        → IsRefused (map string_bytes words.now) t given r) }
+    ensures refused_only { (r : Refusal) (t : Texts)
+        → AreTold (S.left config.old) (S.left book.old) (S.left pairs.old) t
+        → IsRefused (map string_bytes words.now) t given r
         → (result ≡ Err r) ⊎ IsErrAnd result IsFailure }
     ensures misused { result ≡ Err Refusal.Misused ↔ ¬ (AreOfflineWords (map string_bytes words.now)) }
 
@@ -97,14 +78,20 @@ pub fn open_run<S: Source>(
         (S.faults config.old) (S.faults config.new) }
     ensures book { CountsFault (result ≡ Err (Refusal.Book TextRefusal.ReadFault))
         (S.faults book.old) (S.faults book.new) }
+    ensures pairs { CountsFault (result ≡ Err (Refusal.Pairs TextRefusal.ReadFault))
+        (S.faults pairs.old) (S.faults pairs.new) }
     ensures untouched { result ≡ Err Refusal.Misused
-        → (config.new ≡ config.old) × (book.new ≡ book.old) }
+        → (config.new ≡ config.old) × (book.new ≡ book.old) × (pairs.new ≡ pairs.old) }
     ensures unasked { (r : TextRefusal ConfigFault) → result ≡ Err (Refusal.Config r)
-        → book.new ≡ book.old }
+        → (book.new ≡ book.old) × (pairs.new ≡ pairs.old) }
+    ensures unread { (r : TextRefusal BookFault) → result ≡ Err (Refusal.Book r)
+        → pairs.new ≡ pairs.old }
+    ensures nowhere { (are : AreOfflineWords (map string_bytes words.now)) → are.pairs ≡ nowhere
+        → pairs.new ≡ pairs.old }
 {
-    if !asks_offline(words) {
+    let Some(word) = asked_pairs(words) else {
         return Err(Refusal::Misused);
-    }
+    };
     let config = match open_config(alloc, config) {
         Ok(config) => config,
         Err(refusal) => return Err(Refusal::Config(refusal)),
@@ -113,6 +100,10 @@ pub fn open_run<S: Source>(
         Ok(book) => book,
         Err(refusal) => return Err(Refusal::Book(refusal)),
     };
+    let pairs = match open_pairs(alloc, &word, pairs) {
+        Ok(pairs) => pairs,
+        Err(refusal) => return Err(Refusal::Pairs(refusal)),
+    };
     let wanted = config.sessions();
     if given != wanted {
         return Err(Refusal::SessionCount {
@@ -120,7 +111,11 @@ pub fn open_run<S: Source>(
             wanted: wanted as u32,
         });
     }
-    Ok(Opening { config, book })
+    Ok(Opening {
+        config,
+        book,
+        pairs,
+    })
 }
 
 /// Reads a configuration out of its source.
@@ -170,47 +165,5 @@ fn open_book<S: Source>(
         Ok(book) => Ok(book),
         Err(ReadBook::Bad(fault)) => Err(TextRefusal::Bad(fault)),
         Err(ReadBook::OutOfMemory) => Err(TextRefusal::OutOfMemory),
-    }
-}
-
-/// The status of a run that does not begin.
-pub fn status_of_refusal(refusal: Refusal) -> Status
-    ensures { result ≡ status_of_refusal refusal }
-{
-    match refusal {
-        Refusal::Misused => Status::Usage,
-        Refusal::Config(refusal) => status_of_config(refusal),
-        Refusal::Book(refusal) => status_of_book(refusal),
-        Refusal::SessionCount { given, wanted } => Status::SessionCount { given, wanted },
-    }
-}
-
-/// The status of a configuration that is refused.
-fn status_of_config(refusal: TextRefusal<ConfigFault>) -> Status
-    ensures { result ≡ status_of_config refusal }
-{
-    match refusal {
-        TextRefusal::ReadFault => Status::ReadFault(Object::Config),
-        TextRefusal::TooLong => Status::TooLong(Object::Config),
-        TextRefusal::Bad(fault) => Status::BadConfig {
-            kind: fault.kind,
-            index: fault.index,
-        },
-        TextRefusal::OutOfMemory => Status::OutOfMemory,
-    }
-}
-
-/// The status of a runbook that is refused.
-fn status_of_book(refusal: TextRefusal<BookFault>) -> Status
-    ensures { result ≡ status_of_book refusal }
-{
-    match refusal {
-        TextRefusal::ReadFault => Status::ReadFault(Object::Book),
-        TextRefusal::TooLong => Status::TooLong(Object::Book),
-        TextRefusal::Bad(fault) => Status::BadBook {
-            line: fault.line,
-            kind: fault.kind,
-        },
-        TextRefusal::OutOfMemory => Status::OutOfMemory,
     }
 }

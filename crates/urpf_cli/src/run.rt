@@ -1,16 +1,19 @@
-//! A run over the sessions of a configuration: the lines of a runbook come in, and the text of the run
-//! goes to a sink.
-ghost use Rattle.std.specs.Prelude.{◌≡◌, ◌≤◌, ◌<◌, ◌^◌, [], ◌∷◌, ℕ, Err, length, map, IfErr, IfOk, OnErr, OnOk};
+//! A run over the sessions of a configuration: the lines of a runbook and a table of pairs come in, and
+//! the text of the run goes to a sink.
+ghost use Rattle.std.specs.Prelude.{◌≡◌, ◌≤◌, ◌<◌, ◌^◌, [], ◌∷◌, ℕ, Err, List, length, map, IfErr, IfOk, OnErr, OnOk};
 ghost use Rattle.std.specs.Io.KnownBytes.{Appends};
 ghost use Rattle.urpf_base.specs.Faults.{CountsFault};
+ghost use Rattle.urpf_base.specs.declared.sessions.SessionConfig.{SessionConfig};
+ghost use Rattle.origin_pairs.specs.Pairs.{IsPairSet, Pair};
 ghost use Rattle.router_config.specs.Settings.{Settings};
 ghost use Rattle.runbook.specs.Book.{AreConfiguredFor};
 ghost use Rattle.control_core.specs.declared.limits.RunFault.{RunFault};
-ghost use Rattle.control_core.specs.Controls.{IsOpened, first_mark};
-ghost use Rattle.control_core.specs.Worlds.{last_number};
-ghost use Rattle.urpf_cli.specs.Inputs.{IsRun, Run, told_by};
+ghost use Rattle.control_core.specs.Controls.{IsOpened, IsUnused, first_mark, without_pairs};
+ghost use Rattle.control_core.specs.Worlds.{Opening, last_number};
+ghost use Rattle.urpf_cli.specs.Inputs.{IsRun, Run, opening_of, told_by};
+ghost use Rattle.urpf_cli.specs.PairTables.{pairs_in, skipped_in};
 ghost use Rattle.urpf_cli.specs.Places.{opening};
-ghost use Rattle.urpf_cli.specs.RunText.{head_text};
+ghost use Rattle.urpf_cli.specs.RunText.{AreTotals, head_text};
 ghost use Rattle.urpf_cli.specs.Runs.{CountEach, IsAt, NamesSession, RanBook, RanSteps, Serves, TookFront, run_limits};
 ghost use Rattle.urpf_cli.specs.Steps.{lines_in, steps_of};
 
@@ -18,60 +21,72 @@ use crate::run_line::{put_last_mark, take_line};
 use control_core::{Control, ITEM_LIMIT, Limits, Marks, OCTET_LIMIT, RunFault, offer};
 use feed_io::Feed;
 use report_text::{put_done, put_run};
+use roa_irr::Pairs;
 use router_config::Config;
 use rpf_plain::{PlainEngine, SetEngine};
 use runbook::Book;
 use std::alloc::Global;
 use urpf_base::{Line, OutOfMemory, Sink};
 
-/// Runs the book over the feeds of the sessions, one each, from the opening to the closing line.
-/// Where the opening wants memory nothing is written and no feed is asked.
+/// How much a run begins with, as its first line tells it.
+#[derive(Clone, Copy)]
+struct Totals {
+    interfaces: u64,
+    sessions: u64,
+    /// The pairs of the table, each once.
+    pairs: u64,
+    /// The records or objects of the table that gave no pair.
+    skipped: u64,
+}
+
+/// Runs the book over the pairs of the table, where there is one, and the feeds of the sessions, one
+/// each, from the opening to the closing line. Where the opening wants memory nothing is written and no
+/// feed is asked.
 pub fn run_book<F: Feed, K: Sink>(
     alloc: Global,
     config: Config,
     book: &Book,
+    pairs: &Option<Pairs>,
     feeds: &mut Vec<F>,
     out: &mut K,
 ) -> Result<(), RunFault>
     requires slots { length feeds.old.items ≡ length config.sessions }
     requires few { length book.now < 2 ^ 32 }
     requires configured { AreConfiguredFor config book.now }
-    ensures ran { (run : Run) → run.config ≡ config → IsRun run → map F.left feeds.old.items ≡ told_by run
+    ensures ran { (run : Run) → run.config ≡ config → run.table ≡ pairs.now → IsRun run
+        → map F.left feeds.old.items ≡ told_by run
         → RanBook run (lines_in book.now) result (map F.left feeds.new.items) (K.held out.old) (K.held out.new) }
     ensures names { IfErr result (NamesSession (length config.sessions)) }
     ensures feeds { CountEach F.faults (λ s. result ≡ Err (RunFault.ReadFault s)) feeds.old.items feeds.new.items }
     ensures sink { CountsFault (result ≡ Err RunFault.WriteFault) (K.faults out.old) (K.faults out.new) }
 {
-    let interfaces = config.interfaces() as u64;
-    let sessions = config.sessions() as u64;
-    let mut control = match open_control(alloc, config) {
-        Ok(control) => control,
+    let (mut control, totals) = match open_control(alloc, config, pairs) {
+        Ok(opened) => opened,
         Err(OutOfMemory) => return Err(RunFault::OutOfMemory),
     };
-    run_control(&mut control, interfaces, sessions, book, feeds, out)
+    run_control(&mut control, &totals, book, feeds, out)
 }
 
-/// Runs the book over a control at its opening, which serves so many interfaces and sessions.
+/// Runs the book over a control at its opening, which has so much.
 fn run_control<E: SetEngine, F: Feed, K: Sink>(
     control: &mut Control<E>,
-    interfaces: u64,
-    sessions: u64,
+    totals: &Totals,
     book: &Book,
     feeds: &mut Vec<F>,
     out: &mut K,
 ) -> Result<(), RunFault>
-    requires opened { (config : Settings) × IsOpened config run_limits control.old
-        × AreConfiguredFor config book.now × (length config.sessions ≤ 128) }
+    requires opened { (opening : Opening) × IsOpened opening run_limits control.old
+        × AreConfiguredFor opening.settings book.now × (length opening.settings.sessions ≤ 128) }
     requires slots { length feeds.old.items ≡ length control.old.peers }
     requires few { length book.now < 2 ^ 32 }
-    ensures ran { (run : Run) → IsOpened run.config run_limits control.old → interfaces ≡ length run.config.interfaces
-        → sessions ≡ length run.config.sessions → IsRun run → map F.left feeds.old.items ≡ told_by run
+    ensures ran { (run : Run) → IsOpened (opening_of run) run_limits control.old
+        → AreTotals run.config run.table totals.now → IsRun run → map F.left feeds.old.items ≡ told_by run
         → RanBook run (lines_in book.now) result (map F.left feeds.new.items) (K.held out.old) (K.held out.new) }
     ensures names { IfErr result (NamesSession (length control.old.peers)) }
     ensures feeds { CountEach F.faults (λ s. result ≡ Err (RunFault.ReadFault s)) feeds.old.items feeds.new.items }
     ensures sink { CountsFault (result ≡ Err RunFault.WriteFault) (K.faults out.old) (K.faults out.new) }
 {
-    if let Err(fault) = open_run(interfaces, sessions, control.marks(), out) {
+    if let Err(fault) = open_run(totals, control.marks(), out) {
         return Err(fault);
     }
     if let Err(fault) = take_lines(control, book, feeds, out) {
@@ -82,9 +97,33 @@ fn run_control<E: SetEngine, F: Feed, K: Sink>(
     offer(&text, out)
 }
 
-/// The control of the sessions, over an engine that computes the sets anew, within the largest limits.
-fn open_control(alloc: Global, config: Config) -> Result<Control<PlainEngine>, OutOfMemory>
-    ensures { IfOk result (IsOpened config run_limits) }
+/// The control of the sessions at the opening, with the pairs of the table where there is one, and how
+/// much there is.
+fn open_control(
+    alloc: Global,
+    config: Config,
+    pairs: &Option<Pairs>,
+) -> Result<(Control<PlainEngine>, Totals), OutOfMemory>
+    ensures opened { IfOk result (λ o. IsOpened (record { settings = config; pairs = pairs_in pairs.now }) run_limits o.0) }
+    ensures totals { IfOk result (λ o. AreTotals config pairs.now o.1) }
+{
+    let interfaces = config.interfaces() as u64;
+    let sessions = config.sessions() as u64;
+    let mut control = new_control(alloc, config)?;
+    let distinct = load_table(&mut control, pairs)?;
+    let totals = Totals {
+        interfaces,
+        sessions,
+        pairs: distinct,
+        skipped: skipped(pairs),
+    };
+    Ok((control, totals))
+}
+
+/// The control of the sessions without pairs, over an engine that computes the sets anew, within the
+/// largest limits.
+fn new_control(alloc: Global, config: Config) -> Result<Control<PlainEngine>, OutOfMemory>
+    ensures { IfOk result (IsOpened (without_pairs config) run_limits) }
 {
     let engine = PlainEngine::new(alloc, &config.kinds()?)?;
     let limits = Limits {
@@ -94,25 +133,50 @@ fn open_control(alloc: Global, config: Config) -> Result<Control<PlainEngine>, O
     Control::new(alloc, engine, config, limits)
 }
 
+/// Loads the pairs of the table, where there is one. Answers how many there are, each once.
+fn load_table<E: SetEngine>(
+    control: &mut Control<E>,
+    pairs: &Option<Pairs>,
+) -> Result<u64, OutOfMemory>
+    requires unused { IsUnused control.old }
+    ensures opened { (settings : Settings) → IsOpened (without_pairs settings) run_limits control.old
+        → OnOk result (IsOpened (record { settings = settings; pairs = pairs_in pairs.now }) run_limits control.new) }
+    ensures distinct { IfOk result (λ n. (set : List Pair) × IsPairSet (pairs_in pairs.now) set × (n ≡ length set)) }
+{
+    match pairs {
+        Some(pairs) => control.load_pairs(pairs),
+        None => Ok(0),
+    }
+}
+
+/// How many records or objects of the table gave no pair.
+fn skipped(pairs: &Option<Pairs>) -> u64
+    ensures { result ≡ skipped_in pairs.now }
+{
+    match pairs {
+        Some(pairs) => pairs.skipped(),
+        None => 0,
+    }
+}
+
 /// Offers the run line, and the line of publication 0, whose mark is there.
-fn open_run<K: Sink>(
-    interfaces: u64,
-    sessions: u64,
-    marks: &Marks,
-    out: &mut K,
-) -> Result<(), RunFault>
-    requires { (config : Settings) × (marks.now ≡ first_mark config.sessions ∷ []) × (length config.sessions ≤ 128) }
-    ensures ok { (config : Settings) → interfaces ≡ length config.interfaces → sessions ≡ length config.sessions
-        → marks.now ≡ first_mark config.sessions ∷ []
-        → OnOk result (Appends (K.held out.old) (K.held out.new) (head_text config)) }
+fn open_run<K: Sink>(totals: &Totals, marks: &Marks, out: &mut K) -> Result<(), RunFault>
+    requires { (sessions : List SessionConfig) × (marks.now ≡ first_mark sessions ∷ []) × (length sessions ≤ 128) }
+    ensures ok { (sessions : List SessionConfig) → marks.now ≡ first_mark sessions ∷ []
+        → OnOk result (Appends (K.held out.old) (K.held out.new) (head_text totals.now sessions)) }
     ensures err { IfErr result (λ fault. fault ≡ RunFault.WriteFault) }
-    ensures front { (config : Settings) → interfaces ≡ length config.interfaces → sessions ≡ length config.sessions
-        → marks.now ≡ first_mark config.sessions ∷ []
-        → OnErr result (TookFront (λ text. text ≡ head_text config) (K.held out.old) (K.held out.new)) }
+    ensures front { (sessions : List SessionConfig) → marks.now ≡ first_mark sessions ∷ []
+        → OnErr result (TookFront (λ text. text ≡ head_text totals.now sessions) (K.held out.old) (K.held out.new)) }
     ensures sink { CountsFault (result ≡ Err RunFault.WriteFault) (K.faults out.old) (K.faults out.new) }
 {
     let mut first = Line::new();
-    put_run(interfaces, sessions, 0, 0, &mut first);
+    put_run(
+        totals.interfaces,
+        totals.sessions,
+        totals.pairs,
+        totals.skipped,
+        &mut first,
+    );
     if let Err(fault) = offer(&first, out) {
         return Err(fault);
     }

@@ -1,11 +1,10 @@
 //! What one line of a runbook does to a run, and which lines of output it gives.
-ghost use Rattle.std.specs.Prelude.{◌≡◌, ◌+◌, ◌^◌, ◌<◌, ◌≤◌, [], ◌∷◌, ◌++◌, Err, IfErr, IsSome, List, ℕ, Option, Some};
+ghost use Rattle.std.specs.Prelude.{◌≡◌, ◌+◌, ◌^◌, ◌<◌, ◌≤◌, [], ◌∷◌, ◌++◌, Err, IfErr, List, ℕ, Option, Some};
 ghost use Rattle.std.specs.Prelude.{length, map};
 ghost use Rattle.urpf_base.specs.Faults.{CountsFault};
 ghost use Rattle.feed_io.specs.Events.{Event};
 ghost use Rattle.report_text.specs.Lines.{publish_line};
-ghost use Rattle.router_config.specs.Edits.{target};
-ghost use Rattle.router_config.specs.Kinds.{kind_in};
+ghost use Rattle.router_config.specs.Edits.{IsForConfigured};
 ghost use Rattle.router_config.specs.Settings.{Settings};
 ghost use Rattle.runbook.specs.Book.{IsConfiguredFor};
 ghost use Rattle.runbook.specs.declared.lines.BookLine.{BookLine};
@@ -209,10 +208,10 @@ fn check<E: SetEngine, K: Sink>(
     offer(&text, out)
 }
 
-/// Changes the role or the mode of an interface. Nothing is written.
+/// Changes the role or the mode of an interface, or the pairs. Nothing is written.
 fn change<E: SetEngine>(control: &mut Control<E>, edit: &Edit) -> Result<(), RunFault>
     requires few { control.old.edits < 2 ^ 32 }
-    requires configured { IsSome (kind_in control.old.kinds (target edit.now)) }
+    requires configured { IsForConfigured control.old.kinds edit.now }
     ensures ran { (run : Run) (place : Place) (rounds : ℕ) (lefts : List (Option (List Event)))
         (held : Option (List ℕ)) → IsAt run place control.old rounds lefts
         → RanStep run place (steps.change edit.now) result control.new rounds lefts held held }
@@ -227,7 +226,7 @@ fn change<E: SetEngine>(control: &mut Control<E>, edit: &Edit) -> Result<(), Run
     }
 }
 
-/// Offers the line of the routes of now.
+/// Offers the line of the routes and the pairs of now.
 fn summarize<E: SetEngine, K: Sink>(control: &Control<E>, out: &mut K) -> Result<(), RunFault>
     ensures ran { (run : Run) (place : Place) (rounds : ℕ) (lefts : List (Option (List Event)))
         → IsAt run place control.now rounds lefts

@@ -10,6 +10,8 @@ pub enum Object {
     Config,
     /// The runbook.
     Book,
+    /// The table of pairs.
+    Pairs,
     /// The stream of one session.
     Stream,
     /// The feed of the session of this number.
@@ -31,6 +33,8 @@ pub enum Status {
     /// There are so many session words, and another number of sessions is configured. A number given
     /// that is above 4,294,967,295 is told as 4,294,967,295.
     SessionCount { given: u32, wanted: u32 },
+    /// The table of pairs has more than 4,000,000.
+    TooManyPairs,
     /// The text has more octets than its limit.
     TooLong(Object),
     /// A read of the object failed.

@@ -37,6 +37,7 @@ pub fn exit_code(status: &Status) -> u8
         Status::BadConfig { .. } => 3,
         Status::BadBook { .. } => 4,
         Status::SessionCount { .. } => 5,
+        Status::TooManyPairs => 6,
         Status::TooLong(_) => 7,
         Status::ReadFault(_) => 8,
         Status::WriteFault => 9,
@@ -59,6 +60,7 @@ fn put_text(status: &Status, to: &mut Line)
         Status::BadConfig { kind, index } => put_bad_config(*kind, *index, to),
         Status::BadBook { line, kind } => put_bad_book(*line, *kind, to),
         Status::SessionCount { given, wanted } => put_session_count(*given, *wanted, to),
+        Status::TooManyPairs => to.push(b"too many pairs"),
         Status::TooLong(object) => {
             put_object(*object, to);
             to.push(b" too long");
@@ -84,6 +86,7 @@ fn put_object(object: Object, to: &mut Line)
     match object {
         Object::Config => to.push(b"config"),
         Object::Book => to.push(b"book"),
+        Object::Pairs => to.push(b"pairs"),
         Object::Stream => to.push(b"stream"),
         Object::Session(session) => put_session(session, to),
     }

@@ -2,17 +2,18 @@
 //! ask for goes out, if they fit a form.
 //!
 //! ```text
-//! check SESSION SOURCE            offline CONFIG BOOK none S...
+//! check SESSION SOURCE            offline CONFIG BOOK PAIRS S...
 //! ```
 //!
 //! SESSION, CONFIG, BOOK and each S name files, and are neither empty nor `:`. SOURCE is an address.
-//! There may be no S, and none begins with `gen:`.
-ghost use Rattle.std.specs.Prelude.{◌≡◌, ◌↔◌, ℕ, List, [], IfNone, IfSome, IsSomeAnd, IsTrue, Some, map};
+//! PAIRS is `none`, or `vrp:` or `irr:` and behind it the name of a file, which is not empty. There may
+//! be no S, and none begins with `gen:`.
+ghost use Rattle.std.specs.Prelude.{◌≡◌, ◌↔◌, ◌++◌, ℕ, List, [], IfNone, IfSome, IsSomeAnd, IsTrue, None, Some, map};
 ghost use Rattle.std.specs.Prelude.{string_bytes};
 ghost use Rattle.std.specs.List.{All};
 ghost use Rattle.urpf_base.specs.declared.address.Addr.{Addr};
 ghost use Rattle.urpf_cli.specs.Words.{AreCheckWords, AreOfflineWords, AskFor, IsName, IsSessionWord};
-ghost use Rattle.urpf_cli.specs.Words.{Request, request_of};
+ghost use Rattle.urpf_cli.specs.Words.{PairsFrom, Request, SaysPairs, pairs_from, request_of};
 
 use ip_text::read_addr;
 use urpf_base::Addr;
@@ -25,12 +26,32 @@ pub enum Command<'a> {
         session: &'a str,
         source: Addr,
     },
-    /// Runs the runbook in this file, over the configuration in this file and the traces in these.
+    /// Runs the runbook in this file, over the configuration in this file, these pairs and the traces
+    /// in these files.
     Offline {
         config: &'a str,
         book: &'a str,
+        pairs: PairsWord<'a>,
         sessions: &'a [String],
     },
+}
+
+/// Where the pairs of a run come from.
+#[derive(Clone, Copy)]
+pub enum PairsWord<'a> {
+    /// There are none.
+    None,
+    /// They are in the table in this file.
+    Table { form: TableForm, name: &'a str },
+}
+
+/// How a table of pairs is written.
+#[derive(Clone, Copy)]
+pub enum TableForm {
+    /// As validators write the payloads of ROAs, in CSV.
+    Vrp,
+    /// As registries write the objects of routes.
+    Irr,
 }
 
 /// The words of a command line that name feeds.
@@ -93,14 +114,17 @@ pub(crate) fn check_source(words: &[String]) -> Option<Addr>
     }
 }
 
-/// Whether the words ask for `offline`.
-pub(crate) fn asks_offline(words: &[String]) -> bool
-    ensures { IsTrue result ↔ AreOfflineWords (map string_bytes words.now) }
+/// Where the pairs come from that the words of `offline` ask for. None where the words are not of
+/// this form.
+pub(crate) fn asked_pairs(words: &[String]) -> Option<PairsWord<'_>>
+    ensures found { IfSome result (λ word. (are : AreOfflineWords (map string_bytes words.now))
+        × (are.pairs ≡ pairs_from word)) }
+    ensures none { result ≡ None ↔ ¬ (AreOfflineWords (map string_bytes words.now)) }
 {
     match read_command(words) {
-        Some(Command::Offline { .. }) => true,
-        Some(Command::Check { .. }) => false,
-        None => false,
+        Some(Command::Offline { pairs, .. }) => Some(pairs),
+        Some(Command::Check { .. }) => None,
+        None => None,
     }
 }
 
@@ -127,27 +151,66 @@ fn check_words(words: &[String]) -> Option<Command<'_>>
     })
 }
 
-/// `offline CONFIG BOOK none S...`. None where the words are not of this form.
+/// `offline CONFIG BOOK PAIRS S...`. None where the words are not of this form.
 fn offline_words(words: &[String]) -> Option<Command<'_>>
     ensures found { IfSome result (λ c. (are : AreOfflineWords (map string_bytes words.now))
-        × (request_of c ≡ Request.offline are.config are.book are.sessions)) }
+        × (request_of c ≡ Request.offline are.config are.book are.pairs are.sessions)) }
     ensures only { (are : AreOfflineWords (map string_bytes words.now))
-        → IsSomeAnd result (λ c. request_of c ≡ Request.offline are.config are.book are.sessions) }
+        → IsSomeAnd result (λ c. request_of c ≡ Request.offline are.config are.book are.pairs are.sessions) }
 {
     let [command, config, book, pairs, sessions @ ..] = words else {
         return None;
     };
-    if command.as_str() != "offline" || pairs.as_str() != "none" {
+    if command.as_str() != "offline" {
         return None;
     }
     if !is_name(config.as_str()) || !is_name(book.as_str()) || !are_session_words(sessions) {
         return None;
     }
+    let Some(pairs) = read_pairs_word(pairs.as_str()) else {
+        return None;
+    };
     Some(Command::Offline {
         config: config.as_str(),
         book: book.as_str(),
+        pairs,
         sessions,
     })
+}
+
+/// Where the word says that the pairs come from. None where it says nothing.
+fn read_pairs_word(word: &str) -> Option<PairsWord<'_>>
+    ensures found { IfSome result (λ w. SaysPairs word.now (pairs_from w)) }
+    ensures only { (from : PairsFrom) → SaysPairs word.now from → IsSomeAnd result (λ w. pairs_from w ≡ from) }
+{
+    if word == "none" {
+        return Some(PairsWord::None);
+    }
+    if let Some(name) = name_behind(word, "vrp:") {
+        let form = TableForm::Vrp;
+        return Some(PairsWord::Table { form, name });
+    }
+    if let Some(name) = name_behind(word, "irr:") {
+        let form = TableForm::Irr;
+        return Some(PairsWord::Table { form, name });
+    }
+    None
+}
+
+/// What stands behind the front of a word. None where the word does not begin so, and where nothing
+/// stands there.
+fn name_behind<'a>(word: &'a str, front: &str) -> Option<&'a str>
+    ensures found { IfSome result (λ name. (word.now ≡ front.now ++ name.now) × ¬ (name.now ≡ [])) }
+    ensures only { (name : List ℕ) → word.now ≡ front.now ++ name → ¬ (name ≡ [])
+        → IsSomeAnd result (λ n. n.now ≡ name) }
+{
+    let Some(name) = word.strip_prefix(front) else {
+        return None;
+    };
+    if name.is_empty() {
+        return None;
+    }
+    Some(name)
 }
 
 /// Whether each word is that of a session.

@@ -201,6 +201,14 @@ impl SetEngine for SmallEngine {
         self.sets.set_role(iface, role)
     }
 
+    fn add_pair(&mut self, prefix: Prefix, asn: u32) -> Result<bool, OutOfMemory> {
+        self.sets.add_pair(prefix, asn)
+    }
+
+    fn remove_pair(&mut self, prefix: &Prefix, asn: u32) -> bool {
+        self.sets.remove_pair(prefix, asn)
+    }
+
     fn cell(&self, prefix: &Prefix) -> Cell {
         self.sets.cell(prefix)
     }

@@ -1,13 +1,13 @@
 //! `offline` over sessions in memory: where it is done, where its inputs are refused, and where the
 //! outside fails.
-ghost use Rattle.std.specs.Prelude.{Some};
+ghost use Rattle.std.specs.Prelude.{None, Some};
 
 use crate::tests::inputs::{Event, FULL, ONE_CUSTOMER, feed, sink, source, words};
-use feed_io::{Feed, FeedEvent, MemFeed};
+use feed_io::{Feed, FeedEvent, MemFeed, MemSource};
 use router_config::ConfigKind;
 use runbook::BookKind;
 use std::process::Abort;
-use urpf_base::{Failed, Sink};
+use urpf_base::{Failed, Sink, Source};
 use urpf_cli::{Object, Status, feed_names, offline};
 
 /// A call of `offline`, and what comes of it.
@@ -16,26 +16,31 @@ pub struct Run<'a> {
     pub words: &'a [&'a str],
     pub config: &'a str,
     pub book: &'a str,
+    pub pairs: &'a str,
     /// The events of the sessions, one after the other. Those behind them are full.
     pub events: &'a [&'a [Event<'a>]],
-    /// The calls that fail, by their numbers from 1: reads of the configuration and of the book, calls
-    /// of each feed, and writes.
+    /// The calls that fail, by their numbers from 1: reads of the configuration, of the book and of the
+    /// table of pairs, calls of each feed, and writes.
     pub config_fails: &'a [u64],
     pub book_fails: &'a [u64],
+    pub pairs_fails: &'a [u64],
     pub feed_fails: &'a [u64],
     pub write_fails: &'a [u64],
     pub status: Status,
     pub text: &'a str,
 }
 
-/// A run with one full session, which writes its whole text.
+/// A run with one full session and without a table of pairs, which writes its whole text. A read of
+/// the table would fail.
 pub const DONE: Run<'static> = Run {
     words: &["offline", "config", "book", "none", "session"],
     config: ONE_CUSTOMER,
     book: "pull 0 all\npublish\ncheck 0 198.51.100.9\ncheck 0 198.51.101.0\n",
+    pairs: "AS64501,192.0.2.0/24\n",
     events: &[FULL],
     config_fails: &[],
     book_fails: &[],
+    pairs_fails: &[1],
     feed_fails: &[],
     write_fails: &[],
     status: Status::Done,
@@ -58,12 +63,21 @@ pub fn status_of<F: Feed, K: Sink>(
     let words = words(rt, run.words);
     let mut config = source(rt, run.config.as_bytes(), run.config_fails);
     let mut book = source(rt, run.book.as_bytes(), run.book_fails);
+    let mut pairs = source(rt, run.pairs.as_bytes(), run.pairs_fails);
     let line = words.as_slice();
     let names = feed_names(line).sessions;
     if names.len() != feeds.len() {
         panic!(rt; "a feed for each session word");
     }
-    offline(rt.alloc(), line, &mut config, &mut book, feeds, out)
+    offline(
+        rt.alloc(),
+        line,
+        &mut config,
+        &mut book,
+        &mut pairs,
+        feeds,
+        out,
+    )
 }
 
 /// The feeds of the call: as many as it has session words.
@@ -135,9 +149,10 @@ const OF_NO_ROLE: Run<'static> = Run {
     ..MISUSED
 };
 
-/// A book that pulls a session that is not configured, which is told before the sessions are counted.
+/// A book that pulls a session that is not configured, which is told before the table of pairs is read
+/// and the sessions are counted.
 const OF_NO_SESSION: Run<'static> = Run {
-    words: &["offline", "config", "book", "none"],
+    words: &["offline", "config", "book", "vrp:table"],
     config: ONE_CUSTOMER,
     book: "pull 1 all\npublish\n",
     book_fails: &[],
@@ -158,6 +173,34 @@ const REFUSED: &[Run<'static>] = &[
         words: &["offline", ":", "book", "none", "session"],
         ..MISUSED
     },
+    Run {
+        words: &["offline", "config", "book", "", "session"],
+        ..MISUSED
+    },
+    Run {
+        words: &["offline", "config", "book", "None", "session"],
+        ..MISUSED
+    },
+    Run {
+        words: &["offline", "config", "book", "vrp:", "session"],
+        ..MISUSED
+    },
+    Run {
+        words: &["offline", "config", "book", "irr:", "session"],
+        ..MISUSED
+    },
+    Run {
+        words: &["offline", "config", "book", "table", "session"],
+        ..MISUSED
+    },
+    Run {
+        words: &["offline", "config", "book", "VRP:table", "session"],
+        ..MISUSED
+    },
+    Run {
+        words: &["offline", "config", "book", "vrp:table", "gen:7:1"],
+        ..MISUSED
+    },
     OF_NO_ROLE,
     OF_NO_SESSION,
     Run {
@@ -165,6 +208,51 @@ const REFUSED: &[Run<'static>] = &[
         status: Status::BadBook {
             line: 2,
             kind: BookKind::Syntax,
+        },
+        ..OF_NO_SESSION
+    },
+    // A read of the table is tried before the sessions are counted, and not where there is none.
+    Run {
+        words: &[
+            "offline",
+            "config",
+            "book",
+            "vrp:table",
+            "session",
+            "session",
+        ],
+        book: "publish\n",
+        status: Status::ReadFault(Object::Pairs),
+        ..OF_NO_SESSION
+    },
+    Run {
+        words: &[
+            "offline",
+            "config",
+            "book",
+            "irr:table",
+            "session",
+            "session",
+        ],
+        book: "publish\n",
+        pairs_fails: &[2],
+        status: Status::ReadFault(Object::Pairs),
+        ..OF_NO_SESSION
+    },
+    Run {
+        words: &[
+            "offline",
+            "config",
+            "book",
+            "vrp:table",
+            "session",
+            "session",
+        ],
+        book: "publish\n",
+        pairs_fails: &[],
+        status: Status::SessionCount {
+            given: 2,
+            wanted: 1,
         },
         ..OF_NO_SESSION
     },
@@ -272,4 +360,67 @@ fn a_feed_is_asked_no_more_after_its_end_or_a_fault(rt: HostRuntime) {
     };
     is_asked(&rt, &run, 5);
     is_asked(&rt, &OF_A_FAILED_FEED, 3);
+}
+
+/// A text in memory, or one that goes on without an end.
+#[derive(Drop)]
+struct LongSource {
+    text: MemSource,
+    goes_on: bool,
+}
+
+impl Source for LongSource {
+    ghost left = { λ _. None };
+
+    ghost faults = { λ s. s.text.schedule.faults };
+
+    fn read(&mut self, buf: &mut [u8]) -> Result<usize, Failed> {
+        if self.goes_on {
+            return Ok(buf.len());
+        }
+        self.text.read(buf)
+    }
+}
+
+/// A source of this text, which may go on.
+fn long_source(rt: &(impl Abort + AllocGlobal), text: &str, goes_on: bool) -> LongSource {
+    LongSource {
+        text: source(rt, text.as_bytes(), &[]),
+        goes_on,
+    }
+}
+
+/// That a run of these words over a table that goes on without an end comes to this.
+fn is_over_a_long_table(rt: &(impl Abort + AllocGlobal), line: &[String], status: Status) {
+    let mut feeds: Vec<MemFeed> = Vec::new(rt.alloc());
+    if feed_names(line).sessions.len() != 0 {
+        panic!(rt; "no session words");
+    }
+    let mut config = long_source(
+        rt,
+        "interface = [{number = 0, role = \"peer\", mode = \"off\"}]",
+        false,
+    );
+    let mut book = long_source(rt, "", false);
+    let mut pairs = long_source(rt, "", true);
+    let mut out = sink(rt, &[]);
+    let ended = offline(
+        rt.alloc(),
+        line,
+        &mut config,
+        &mut book,
+        &mut pairs,
+        &mut feeds,
+        &mut out,
+    );
+    assert_eq!(rt; ended, status, "of {line:?}");
+}
+
+#[test]
+fn a_table_of_too_many_octets_is_refused_where_it_is_read(rt: HostRuntime) {
+    let too_long = Status::TooLong(Object::Pairs);
+    let table = words(&rt, &["offline", "config", "book", "vrp:table"]);
+    is_over_a_long_table(&rt, &table, too_long);
+    let none = words(&rt, &["offline", "config", "book", "none"]);
+    is_over_a_long_table(&rt, &none, Status::Done);
 }

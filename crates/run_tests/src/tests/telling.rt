@@ -4,8 +4,8 @@ use runbook::BookKind;
 use std::process::Abort;
 use urpf_base::{Addr, Line};
 use urpf_cli::{
-    Command, Status, exit_code, feed_names, one_opening, one_output, one_refusal_status,
-    one_run_text, put_status, read_command, text_limits,
+    Command, Object, PairsWord, Status, TableForm, exit_code, feed_names, one_opening, one_output,
+    one_refusal_status, one_run_text, put_status, read_command, text_limits,
 };
 
 /// Statuses that no file brings about, the line of each on standard error, and the number that the
@@ -26,6 +26,13 @@ const STATUSES: &[(Status, &str, u8)] = &[
         },
         "urpf: 4294967295 sessions given, 128 wanted\n",
         5,
+    ),
+    (Status::TooManyPairs, "urpf: too many pairs\n", 6),
+    (Status::TooLong(Object::Pairs), "urpf: pairs too long\n", 7),
+    (
+        Status::ReadFault(Object::Pairs),
+        "urpf: read fault on pairs\n",
+        8,
     ),
     (
         Status::ItemLimit { session: 0 },
@@ -70,6 +77,51 @@ fn asked(words: &[String]) -> (&str, &str, Option<Addr>) {
     }
 }
 
+/// What a word of the pairs has read, and nothing where it is no such word.
+fn table_of(rt: &(impl Abort + AllocGlobal), word: &str) -> String {
+    let line = words(rt, &["offline", "a", "b", word]);
+    let told = match read_command(&line) {
+        Some(Command::Offline { pairs, .. }) => match pairs {
+            PairsWord::None => format!(in rt.alloc(); "no table"),
+            PairsWord::Table {
+                form: TableForm::Vrp,
+                name,
+            } => format!(in rt.alloc(); "payloads in {name}"),
+            PairsWord::Table {
+                form: TableForm::Irr,
+                name,
+            } => format!(in rt.alloc(); "objects in {name}"),
+        },
+        Some(Command::Check { .. }) => format!(in rt.alloc(); "a check"),
+        None => format!(in rt.alloc(); ""),
+    };
+    told.expect(rt, "memory")
+}
+
+#[test]
+fn the_word_of_the_pairs_names_a_table_or_none(rt: HostRuntime) {
+    for (word, told) in [
+        ("none", "no table"),
+        ("vrp:c", "payloads in c"),
+        ("irr:c", "objects in c"),
+        ("vrp:irr:c", "payloads in irr:c"),
+        ("irr::", "objects in :"),
+        ("irr: ", "objects in  "),
+        ("", ""),
+        (":", ""),
+        ("none:", ""),
+        ("NONE", ""),
+        ("vrp", ""),
+        ("vrp:", ""),
+        ("irr:", ""),
+        ("Vrp:c", ""),
+        ("csv:c", ""),
+        (" vrp:c", ""),
+    ] {
+        assert_eq!(rt; table_of(&rt, word).as_str(), told, "of {word}");
+    }
+}
+
 #[test]
 fn words_ask_for_a_command_or_fit_none(rt: HostRuntime) {
     let line = words(&rt, &["check", "a", "198.51.100.9"]);
@@ -80,6 +132,9 @@ fn words_ask_for_a_command_or_fit_none(rt: HostRuntime) {
     assert_eq!(rt; feed_names(&line).sessions.len(), 2);
     assert_eq!(rt; feed_names(&line).packets.len(), 0);
     let line = words(&rt, &["offline", "a", "b", "vrp:c", "d"]);
+    assert_eq!(rt; asked(&line), ("a", "b", None));
+    assert_eq!(rt; feed_names(&line).sessions.len(), 1);
+    let line = words(&rt, &["offline", "a", "b", "vrp:", "d"]);
     assert_eq!(rt; asked(&line), ("", "", None));
     assert_eq!(rt; feed_names(&line).sessions.len(), 0);
 }

@@ -1,4 +1,4 @@
-use Rattle.urpf_cli.proofs.Refusals.{one_status}
+use Rattle.urpf_cli.proofs.RefusalStatuses.{one_status}
 use Rattle.urpf_cli.proofs.laws.one_refusal_status.Goals as goal
 
 pub returns : goal.returns

@@ -7,43 +7,52 @@ use Rattle.router_config.specs.Settings.{Settings}
 use Rattle.runbook.specs.declared.lines.BookLine.{BookLine}
 use Rattle.urpf_cli.specs.Inputs.{events_of}
 use Rattle.urpf_cli.specs.Limits.{StaysBelow}
-use Rattle.urpf_cli.specs.Openings.{IsFailure, IsRefused, Opens}
+use Rattle.urpf_cli.specs.Openings.{IsBeforePairs, IsFailure, IsRefused, Opens}
 use Rattle.urpf_cli.specs.RunText.{steps_for}
 use Rattle.urpf_cli.specs.Runs.{NamesSession, RanBook}
 use Rattle.urpf_cli.specs.Statuses.{IsRunStatus, status_of_run}
 use Rattle.urpf_cli.specs.Steps.{lines_in, steps_of}
-use Rattle.urpf_cli.specs.declared.opening.Refusal.{Refusal}
+use Rattle.urpf_cli.specs.declared.refusals.Refusal.{Refusal}
 use Rattle.urpf_cli.proofs.OfflineEnds.{as_many_told, begun, done_below, none_failed, one_run_end, run_known}
 use Rattle.urpf_cli.proofs.OpeningLaws.{one_opening}
-use Rattle.urpf_cli.proofs.Refusals.{failure_told, one_status}
+use Rattle.urpf_cli.proofs.RefusalStatuses.{before_pairs, failure_told, one_status, one_told}
 use Rattle.urpf_cli.proofs.offline_command.offline.Goals as goal
 
 pub returns-in-Err-clause-refused : goal.returns-in-Err-clause-refused
-returns-in-Err-clause-refused g c = λ r config book decided is left_config left_book.
+returns-in-Err-clause-refused g c = λ r texts decided is are.
     let words = map string_bytes c.args.words.now in
     let same : c.in-Err.refusal ≡ r =
     one_status c.in-Err.refusal r decided (sym c.status_of_refusal.ensures ∙ is) in
-    subst (λ (n : ℕ). IsRefused words config book n r) (c.len.ensures ∙ c.args.feeds.now.ok.0)
-    (subst (λ (q : Refusal). IsRefused words config book c.len.result q) same
-    (c.in-Err.ensures.refused (subst (λ (q : Refusal). (IsFailure q → ⊥)) (sym same) decided) config book left_config
-    left_book))
+    subst (λ (n : ℕ). IsRefused words texts n r) (c.len.ensures ∙ c.args.feeds.now.ok.0)
+    (subst (λ (q : Refusal). IsRefused words texts c.len.result q) same
+    (c.in-Err.ensures.refused (subst (λ (q : Refusal). (IsFailure q → ⊥)) (sym same) decided) texts are))
+
+pub returns-in-Err-clause-unread : goal.returns-in-Err-clause-unread
+returns-in-Err-clause-unread g c = λ r other is before.
+    let same : c.in-Err.refusal ≡ r = one_told c.in-Err.refusal r other (sym c.status_of_refusal.ensures ∙ is) in
+    before_pairs c.in-Err.refusal (subst (λ (q : Refusal). IsBeforePairs q) (sym same) before)
+    (λ e. c.in-Err.ensures.untouched (ap (λ (q : Refusal). Err q) e))
+    (λ r e. c.in-Err.ensures.unasked r (ap (λ (q : Refusal). Err q) e))
+    (λ r e. c.in-Err.ensures.unread r (ap (λ (q : Refusal). Err q) e))
 
 pub returns-in-Err-clause-done_only : goal.returns-in-Err-clause-done_only
-returns-in-Err-clause-done_only g c = λ config book events left_config left_book told below read_config read_book feeds
-    out.
+returns-in-Err-clause-done_only g c = λ texts events are told below read_config read_book read_pairs feeds out.
     let words = map string_bytes c.args.words.now in
     let given : length events ≡ c.len.result =
     as_many_told g.F.Feed.left c.args.feeds.now.items events told
     ∙ sym (c.len.ensures ∙ c.args.feeds.now.ok.0) in
-    let opens : Opens words config book c.len.result below.settings below.rows =
-    subst (λ (n : ℕ). Opens words config book n below.settings below.rows) given below.opens in
-    elim (c.in-Err.ensures.only config book below.settings below.rows left_config left_book opens) [
+    let opens : Opens words texts c.len.result below.settings below.rows below.table =
+    subst (λ (n : ℕ). Opens words texts n below.settings below.rows below.table) given below.opens in
+    elim (c.in-Err.ensures.only texts below.settings below.rows below.table are opens) [
       | inl same ↦ absurd cc
       | inr fails ↦ elim (failure_told c.in-Err.refusal fails) [
         | inl read ↦ absurd (read_config (c.in-Err.ensures.config.rose (ap (λ (r : Refusal). Err r) read)))
         | inr other ↦ elim other [
           | inl read ↦ absurd (read_book (c.in-Err.ensures.book.rose (ap (λ (r : Refusal). Err r) read)))
-          | inr memory ↦ inr (c.status_of_refusal.ensures ∙ memory)
+          | inr more ↦ elim more [
+            | inl read ↦ absurd (read_pairs (c.in-Err.ensures.pairs.rose (ap (λ (r : Refusal). Err r) read)))
+            | inr memory ↦ inr (c.status_of_refusal.ensures ∙ memory)
+          ]
         ]
       ]
     ]
@@ -57,65 +66,67 @@ returns-clause-known g c =
     (subst (λ (n : ℕ). IfErr c.run_book.result (NamesSession n)) many c.run_book.ensures.names))
 
 pub returns-clause-ran : goal.returns-clause-ran
-returns-clause-ran g c = λ end config book events had is left_config left_book told.
+returns-clause-ran g c = λ end texts events had is are told.
     let o = c.in-Ok.opening in
     let lefts = map g.F.Feed.left c.args.feeds.now.items in
     let given : length events ≡ c.len.result =
     as_many_told g.F.Feed.left c.args.feeds.now.items events told
     ∙ sym (c.len.ensures ∙ c.args.feeds.now.ok.0) in
-    let b = begun o.config events lefts (given ∙ c.in-Ok.ensures.ready.counted) told in
+    let b = begun o.config o.pairs events lefts (given ∙ c.in-Ok.ensures.ready.counted) told in
     record {
       settings = o.config;
       rows = o.book;
-      opens = subst (λ (n : ℕ). Opens (map string_bytes c.args.words.now) config book n o.config o.book) (sym given)
-          (c.in-Ok.ensures.found.1 config book left_config left_book);
+      table = o.pairs;
+      opens = subst (λ (n : ℕ). Opens (map string_bytes c.args.words.now) texts n o.config o.book o.pairs) (sym given)
+          (c.in-Ok.ensures.found.1 texts are);
       run = b.run;
       reads = b.reads;
       ran = subst (λ (e : Result (Unit {0}) RunFault). RanBook b.run (lines_in o.book) e
           (map g.F.Feed.left c.run_book.new.feeds.items) (g.K.Sink.held c.args.out.now)
           (g.K.Sink.held c.run_book.new.out))
           (one_run_end c.run_book.result end (sym c.status_of_end.ensures ∙ is))
-          (c.run_book.ensures.ran b.run b.reads.configured b.reads.is b.told);
+          (c.run_book.ensures.ran b.run b.reads.configured b.reads.tabled b.reads.is b.told);
     }
 
 pub returns-clause-memory : goal.returns-clause-memory
-returns-clause-memory g c = λ config book events is left_config left_book told.
+returns-clause-memory g c = λ texts events is are told.
     let o = c.in-Ok.opening in
     let lefts = map g.F.Feed.left c.args.feeds.now.items in
     let given : length events ≡ c.len.result =
     as_many_told g.F.Feed.left c.args.feeds.now.items events told
     ∙ sym (c.len.ensures ∙ c.args.feeds.now.ok.0) in
-    let b = begun o.config events lefts (given ∙ c.in-Ok.ensures.ready.counted) told in
+    let b = begun o.config o.pairs events lefts (given ∙ c.in-Ok.ensures.ready.counted) told in
     let starved : RanBook b.run (lines_in o.book) (Err OutOfMemory) (map g.F.Feed.left c.run_book.new.feeds.items)
     (g.K.Sink.held c.args.out.now) (g.K.Sink.held c.run_book.new.out) =
     subst (λ (e : Result (Unit {0}) RunFault). RanBook b.run (lines_in o.book) e
     (map g.F.Feed.left c.run_book.new.feeds.items) (g.K.Sink.held c.args.out.now)
     (g.K.Sink.held c.run_book.new.out))
     (one_run_end c.run_book.result (Err OutOfMemory) (sym c.status_of_end.ensures ∙ is))
-    (c.run_book.ensures.ran b.run b.reads.configured b.reads.is b.told) in
+    (c.run_book.ensures.ran b.run b.reads.configured b.reads.tabled b.reads.is b.told) in
     inr (record {
       settings = o.config;
       rows = o.book;
-      opens = subst (λ (n : ℕ). Opens (map string_bytes c.args.words.now) config book n o.config o.book) (sym given)
-          (c.in-Ok.ensures.found.1 config book left_config left_book);
+      table = o.pairs;
+      opens = subst (λ (n : ℕ). Opens (map string_bytes c.args.words.now) texts n o.config o.book o.pairs) (sym given)
+          (c.in-Ok.ensures.found.1 texts are);
       run = b.run;
       reads = b.reads;
       took = starved.0;
     })
 
 pub returns-clause-done_only : goal.returns-clause-done_only
-returns-clause-done_only g c = λ config book events left_config left_book told below read_config read_book feeds out.
+returns-clause-done_only g c = λ texts events are told below read_config read_book read_pairs feeds out.
     let words = map string_bytes c.args.words.now in
     let o = c.in-Ok.opening in
     let lefts = map g.F.Feed.left c.args.feeds.now.items in
     let given : length events ≡ c.len.result =
     as_many_told g.F.Feed.left c.args.feeds.now.items events told
     ∙ sym (c.len.ensures ∙ c.args.feeds.now.ok.0) in
-    let b = begun o.config events lefts (given ∙ c.in-Ok.ensures.ready.counted) told in
+    let b = begun o.config o.pairs events lefts (given ∙ c.in-Ok.ensures.ready.counted) told in
     let same =
-    one_opening words config book (length events) below.settings o.config below.rows o.book below.opens
-    (subst (λ (n : ℕ). Opens words config book n o.config o.book) (sym given)
-    (c.in-Ok.ensures.found.1 config book left_config left_book)) in
+    one_opening words texts (length events) below.settings o.config below.rows o.book below.table o.pairs below.opens
+    (subst (λ (n : ℕ). Opens words texts n o.config o.book o.pairs) (sym given)
+    (c.in-Ok.ensures.found.1 texts are)) in
     let stays : StaysBelow (events_of b.run) (steps_for b.run (lines_in o.book)) =
     subst (λ (s : Settings). StaysBelow (events_of b.run) (steps_of (length s.sessions) (lines_in o.book)))
     (sym b.reads.configured)
@@ -129,7 +140,7 @@ returns-clause-done_only g c = λ config book events left_config left_book told 
     let done =
     done_below b.run (lines_in o.book) c.run_book.result (map g.F.Feed.left c.run_book.new.feeds.items)
     (g.K.Sink.held c.args.out.now) (g.K.Sink.held c.run_book.new.out)
-    (c.run_book.ensures.ran b.run b.reads.configured b.reads.is b.told) stays
+    (c.run_book.ensures.ran b.run b.reads.configured b.reads.tabled b.reads.is b.told) stays
     (none_failed g.F.Feed.faults c.run_book.result (length o.config.sessions) c.args.feeds.now.items
     c.run_book.new.feeds.items many c.run_book.ensures.names c.run_book.ensures.feeds feeds)
     (λ failed. out (c.run_book.ensures.sink.rose failed)) in

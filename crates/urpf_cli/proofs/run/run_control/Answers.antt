@@ -2,48 +2,52 @@ use Rattle.std.proofs.Common.{◌∙◌, ℕ, Ok, Err, map, subst, sym}
 use Rattle.std.proofs.lemmas.Slice.Zip.{AllZip-long}
 use Rattle.urpf_cli.specs.Inputs.{IsInput}
 use Rattle.urpf_cli.specs.Places.{opening}
+use Rattle.urpf_cli.specs.RunText.{head_text}
 use Rattle.urpf_cli.specs.Runs.{RanSteps}
 use Rattle.urpf_cli.specs.Steps.{lines_in, steps_of}
-use Rattle.urpf_cli.proofs.Heads.{book_ran, book_stopped, head_front, write_stops}
+use Rattle.urpf_cli.proofs.Heads.{book_ran, book_stopped, head_front, head_of, write_stops}
 use Rattle.urpf_cli.proofs.RunOpened.{as_many, opened_at, serves_opened}
 use Rattle.urpf_cli.proofs.run.run_control.Goals as goal
 
 pub returns-in-Err-clause-ran : goal.returns-in-Err-clause-ran
-returns-in-Err-clause-ran g c = λ run opened many most is told. (
-  head_front run (lines_in c.args.book.now) (g.K.Sink.held c.args.out.now) (g.K.Sink.held c.open_run.new.out)
-      (c.in-Err.ensures.front run.config many most (c.marks.ensures ∙ opened.marks)),
+returns-in-Err-clause-ran g c = λ run opened are is told. (
+  head_front run (lines_in c.args.book.now) (head_text c.args.totals.now run.config.sessions)
+      (g.K.Sink.held c.args.out.now) (g.K.Sink.held c.open_run.new.out) (head_of run c.args.totals.now are)
+      (c.in-Err.ensures.front run.config.sessions (c.marks.ensures ∙ opened.marks)),
   write_stops run (lines_in c.args.book.now) (map g.F.Feed.left c.args.feeds.now.items) c.in-Err.fault
       c.in-Err.ensures.err,
 )
 
 pub take_lines-requires-clause-serves : goal.take_lines-requires-clause-serves
 take_lines-requires-clause-serves g c = (
-  c.requires.opened.0,
+  c.requires.opened.0.settings,
   serves_opened c.requires.opened.0 c.args.control.now c.requires.opened.3 c.requires.opened.1,
   c.requires.opened.2,
 )
 
 pub returns-in-Err-take_lines-clause-ran : goal.returns-in-Err-take_lines-clause-ran
-returns-in-Err-take_lines-clause-ran g c = λ run opened many most is told.
+returns-in-Err-take_lines-clause-ran g c = λ run opened are is told.
     let ran = c.in-Err-take_lines.ensures.ran run
     (opened_at run c.args.control.now (map g.F.Feed.left c.args.feeds.now.items) is opened told) in
     book_stopped run (lines_in c.args.book.now) c.in-Err-take_lines.fault c.take_lines.new.control ran.0
-    (map g.F.Feed.left c.take_lines.new.feeds.items) (g.K.Sink.held c.args.out.now) (g.K.Sink.held c.open_run.new.out)
-    (g.K.Sink.held c.take_lines.new.out) (sym (AllZip-long IsInput run.config.sessions run.inputs is))
-    (c.in_default.ensures.ok run.config many most (c.marks.ensures ∙ opened.marks))
+    (map g.F.Feed.left c.take_lines.new.feeds.items) (head_text c.args.totals.now run.config.sessions)
+    (g.K.Sink.held c.args.out.now) (g.K.Sink.held c.open_run.new.out) (g.K.Sink.held c.take_lines.new.out)
+    (head_of run c.args.totals.now are) (sym (AllZip-long IsInput run.config.sessions run.inputs is))
+    (c.in_default.ensures.ok run.config.sessions (c.marks.ensures ∙ opened.marks))
     (subst (λ (n : ℕ). RanSteps run (opening run.config.sessions) (steps_of n (lines_in c.args.book.now))
     (Err c.in-Err-take_lines.fault) c.take_lines.new.control ran.0 (map g.F.Feed.left c.take_lines.new.feeds.items)
     (g.K.Sink.held c.open_run.new.out) (g.K.Sink.held c.take_lines.new.out))
     (as_many run.config.sessions c.args.control.now.peers opened.stands.stand) ran.1)
 
 pub returns-clause-ran : goal.returns-clause-ran
-returns-clause-ran g c = λ run opened many most is told.
+returns-clause-ran g c = λ run opened are is told.
     let ran = c.in_default-take_lines.ensures.ran run
     (opened_at run c.args.control.now (map g.F.Feed.left c.args.feeds.now.items) is opened told) in
     book_ran run (lines_in c.args.book.now) c.number.result c.put_done.new.to c.offer.result c.take_lines.new.control
-    ran.0 (map g.F.Feed.left c.take_lines.new.feeds.items) (g.K.Sink.held c.args.out.now)
-    (g.K.Sink.held c.open_run.new.out) (g.K.Sink.held c.take_lines.new.out) (g.K.Sink.held c.offer.new.out)
-    (c.in_default.ensures.ok run.config many most (c.marks.ensures ∙ opened.marks))
+    ran.0 (map g.F.Feed.left c.take_lines.new.feeds.items) (head_text c.args.totals.now run.config.sessions)
+    (g.K.Sink.held c.args.out.now) (g.K.Sink.held c.open_run.new.out) (g.K.Sink.held c.take_lines.new.out)
+    (g.K.Sink.held c.offer.new.out) (head_of run c.args.totals.now are)
+    (c.in_default.ensures.ok run.config.sessions (c.marks.ensures ∙ opened.marks))
     (subst (λ (n : ℕ). RanSteps run (opening run.config.sessions) (steps_of n (lines_in c.args.book.now))
     (Ok tt) c.take_lines.new.control ran.0 (map g.F.Feed.left c.take_lines.new.feeds.items)
     (g.K.Sink.held c.open_run.new.out) (g.K.Sink.held c.take_lines.new.out))

@@ -1,5 +1,6 @@
 use Rattle.std.proofs.Common.{[], refl}
 use Rattle.control_core.proofs.PullLaws.{appends_none}
+use Rattle.urpf_cli.specs.Inputs.{opening_of}
 use Rattle.urpf_cli.specs.Steps.{change}
 use Rattle.urpf_cli.proofs.StepResults.{changed_at, serves_edited}
 use Rattle.urpf_cli.proofs.Written.{step_starved}
@@ -9,7 +10,7 @@ pub returns-in-Ok-clause-ran : goal.returns-in-Ok-clause-ran
 returns-in-Ok-clause-ran g c = λ run place rounds lefts held s. (
   record { text = []; is = refl; appended = appends_none held },
   changed_at run place c.args.edit.now c.args.control.now c.edit.new.self rounds lefts s c.in-Ok.ensures.ok
-      (c.in-Ok.ensures.stands run.config place.edits s.courses s.stands) c.in-Ok.ensures.able.1,
+      (c.in-Ok.ensures.stands (opening_of run) place.edits s.courses s.stands) c.in-Ok.ensures.able.1,
 )
 
 pub returns-in-Err-clause-ran : goal.returns-in-Err-clause-ran

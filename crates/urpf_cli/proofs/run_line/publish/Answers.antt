@@ -2,6 +2,7 @@ use Rattle.std.proofs.Common.{◌∙◌, ap, arith}
 use Rattle.control_core.specs.Controls.{position_of}
 use Rattle.control_core.specs.Worlds.{last_number}
 use Rattle.control_core.proofs.LastMarks.{last_number-push}
+use Rattle.urpf_cli.specs.Inputs.{opening_of}
 use Rattle.urpf_cli.specs.Steps.{publish}
 use Rattle.urpf_cli.proofs.StepResults.{published_at, published_gives}
 use Rattle.urpf_cli.proofs.Written.{step_ran, step_starved}
@@ -17,11 +18,11 @@ returns-clause-ran g c = λ run place rounds lefts s.
     (g.K.Sink.held c.args.out.now) (g.K.Sink.held c.offer.new.out)
     (published_gives run place c.args.control.now c.publish.new.self rounds lefts c.in-Ok.published
     c.put_last_mark.new.to s c.in-Ok.ensures.ok
-    (c.in-Ok.ensures.difference run.config place.edits s.courses s.stands)
+    (c.in-Ok.ensures.difference (opening_of run) place.edits s.courses s.stands)
     (c.put_last_mark.ensures c.args.control.now.marks (position_of c.args.control.now c.in-Ok.published.0)
     (c.marks.ensures ∙ c.in-Ok.ensures.ok.marks)))
     (published_at run place c.args.control.now c.publish.new.self rounds lefts c.in-Ok.published s c.in-Ok.ensures.ok
-    (c.in-Ok.ensures.stands run.config place.edits s.courses s.stands) c.in-Ok.ensures.able.1)
+    (c.in-Ok.ensures.stands (opening_of run) place.edits s.courses s.stands) c.in-Ok.ensures.able.1)
     c.offer.ensures.ok c.offer.ensures.cut_short c.offer.ensures.err
 
 pub returns-clause-number : goal.returns-clause-number

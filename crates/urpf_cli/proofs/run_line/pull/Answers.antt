@@ -1,5 +1,6 @@
 use Rattle.std.proofs.Common.{◌≡◌, Err}
 use Rattle.control_core.specs.declared.limits.RunFault.TheVariants.{ReadFault}
+use Rattle.urpf_cli.specs.Inputs.{opening_of}
 use Rattle.urpf_cli.proofs.FeedFaults.{each_of_one, pull_named}
 use Rattle.urpf_cli.proofs.PullStep.{pull_ran}
 use Rattle.urpf_cli.proofs.run_line.pull.Goals as goal
@@ -10,7 +11,7 @@ returns-clause-ran g c = λ run place rounds s.
     c.args.feeds.now.items c.pull.new.feeds.items (g.K.Sink.held c.args.out.now) (g.K.Sink.held c.pull.new.out) s
     c.requires.session c.pull.ensures.pull
     (λ course peer gave more there now stands.
-    c.pull.ensures.stands run.config place.edits s.courses course peer gave more s.stands there now stands)
+    c.pull.ensures.stands (opening_of run) place.edits s.courses course peer gave more s.stands there now stands)
     c.pull.ensures.published c.pull.ensures.memory
 
 pub returns-clause-feeds : goal.returns-clause-feeds

@@ -6,7 +6,7 @@ use Rattle.urpf_cli.proofs.words.check_source.Goals as goal
 -- the source that is asked for
 source_of : Request → Option Addr
 source_of (check session source) = Some source
-source_of (offline config book sessions) = None
+source_of (offline config book pairs sessions) = None
 
 pub returns-in-Some-Check-clause-only : goal.returns-in-Some-Check-clause-only
 unfolding source_of

@@ -1,5 +1,6 @@
-use Rattle.std.proofs.Common.{List, ℕ, ◌∷◌, ◌∙◌, ap, map, sym, drop, rules}
+use Rattle.std.proofs.Common.{List, ℕ, ◌∷◌, ◌∙◌, ap, map, sym, drop, refl, rules}
 use Rattle.std.specs.Prelude.{codes, string_bytes}
+use Rattle.urpf_cli.specs.Words.{pairs_from}
 use Rattle.urpf_cli.proofs.Lines.{four_items, not_unequal, rest_of}
 use Rattle.urpf_cli.proofs.Requests.{same_offline}
 use Rattle.urpf_cli.proofs.words.offline_words.Goals as goal
@@ -10,22 +11,24 @@ returns-clause-found c =
     let book = string_bytes c.book-item.result in
     let sessions = map string_bytes (drop 4 c.args.words.now) in
     let command = sym c.as_str.ensures.value ∙ not_unequal c.as_str.result.now (codes "offline") c.if-ne.ensures in
-    let pairs =
-    sym c.as_str-else-ne.ensures.value ∙ not_unequal c.as_str-else-ne.result.now (codes "none") c.if-ne-2.ensures in
+    let pairs = c.in-Some.ensures.found in
+    let word = sym c.as_str-3.ensures.value ∙ pairs.0 in
     let rest = ap (map string_bytes) (rest_of 4 c.args.words.now) in (
       record {
         config = config;
         book = book;
+        pairs = pairs_from c.in-Some.pairs;
         sessions = sessions;
         parts = ap (map string_bytes)
             (four_items c.args.words.now c.command-item.result c.config-item.result c.book-item.result
             c.pairs-item.result c.in-len4-up.len_at_least c.command-item.is c.config-item.is c.book-item.is
             c.pairs-item.is)
             ∙ ap (λ (w : List ℕ). w ∷ config ∷ book ∷ string_bytes c.pairs-item.result ∷ sessions) command
-            ∙ ap (λ (w : List ℕ). codes "offline" ∷ config ∷ book ∷ w ∷ sessions) pairs;
+            ∙ ap (λ (w : List ℕ). codes "offline" ∷ config ∷ book ∷ w ∷ sessions) word;
         config_named = rw c.as_str-2.ensures.value at (c.if-not-is_name.ensures.0 (search rules));
         book_named = rw c.as_str-else-not-is_name.ensures.value at (c.if-not-is_name-2.ensures.0 (search rules));
+        pairs_named = pairs.1;
         sessions_fit = rw (rest_of 4 c.args.words.now) at (c.if-not-are_session_words.ensures.0 (search rules));
       },
-      same_offline _ config _ book _ sessions c.as_str-3.ensures.value c.as_str-4.ensures.value rest,
+      same_offline _ config _ book _ _ _ sessions c.as_str-4.ensures.value c.as_str-5.ensures.value refl rest,
     )

@@ -3,8 +3,9 @@ ghost use Rattle.std.specs.Prelude.{◌≡◌, ℕ, List, ◌∷◌, ◌++◌, �
 ghost use Rattle.std.specs.Option.{IfSome, IsSomeAnd};
 ghost use Rattle.std.specs.Str.Iter.{LacksByte};
 
-/// What stands before the first mark, and what stands after it. None where there is no mark.
-pub(crate) fn cut(text: &[u8], mark: u8) -> Option<(&[u8], &[u8])>
+/// What stands before the first mark, and what stands after it; the mark is any octet. None where there
+/// is no mark.
+pub fn cut(text: &[u8], mark: u8) -> Option<(&[u8], &[u8])>
     ensures found { IfSome result (λ r. text.now ≡ r.0.now ++ (mark ∷ r.1.now)) }
     ensures only { (front rest : List ℕ) → LacksByte mark front
         → text.now ≡ front ++ (mark ∷ rest)

@@ -9,6 +9,7 @@ mod prefixes;
 mod printing;
 mod reading;
 
+pub use cutting::cut;
 pub use numbers::read_number;
 pub use prefixes::{read_asn, read_prefix};
 pub use printing::{put_addr, put_number};

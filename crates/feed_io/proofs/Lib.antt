@@ -1,4 +1,6 @@
 pub mod Copying
 pub mod Fronts
+pub mod GenWords
+pub mod Generated
 pub mod Spellings
 pub mod TraceFeeds

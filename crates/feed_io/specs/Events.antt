@@ -1,5 +1,6 @@
 -- What a feed gives: its events, and what one call gives and takes away. Our own choice.
-use Rattle.std.specs.Prelude.{◌≡◌, ℕ, ◌≤◌, List, [], ◌∷◌, ◌++◌, length, take, Option, Some, None, Result, Ok, Err, IfOk}
+use Rattle.std.specs.Prelude.{◌≡◌, ℕ, ◌≤◌, List, [], ◌∷◌, ◌++◌, length, min, take, Option}
+use Rattle.std.specs.Prelude.{Some, None, Result, Ok, Err, IfOk}
 use Rattle.feed_io.specs.declared.feeds.FeedEvent.{FeedEvent}
 use Rattle.feed_io.specs.declared.feeds.FeedEvent.TheVariants.{Up, Octets, Down, Elapsed, End}
 
@@ -57,6 +58,11 @@ FitsBuffer End buffer = Unit {0}
 -- what a call gave fits into the buffer
 abbrev pub GivesAtMost : {E : Type 0} → Result FeedEvent E → List ℕ → Type 0
 GivesAtMost result buffer = IfOk result (λ event. FitsBuffer event buffer)
+
+-- octets of the first event come as many as the buffer has room for
+abbrev pub GivesMost : FeedEvent → List ℕ → List Event → Type 0
+GivesMost (Octets n) buffer (octets piece ∷ later) = n ≡ min (length buffer) (length piece)
+GivesMost event buffer old = Unit {0}
 
 -- a piece that may be appended as one event has 1 to 65,535 octets
 abbrev pub IsPiece : List ℕ → Type 0

@@ -1,4 +1,6 @@
 pub mod Events
+pub mod GenWords
+pub mod Generated
 pub mod Memory
 pub mod Spelling
 pub mod Stored

@@ -2,7 +2,7 @@
 //!
 //! They are opened at the first call and tell nothing of their contents, which no proof knows. Each
 //! call asks the outside once: an error raises the count of faults by one, and a success leaves it.
-ghost use Rattle.std.specs.Prelude.{◌≡◌, None};
+ghost use Rattle.std.specs.Prelude.{◌≡◌, None, string_bytes};
 ghost use Rattle.std.specs.Io.{ReadsAtMost};
 
 use crate::fault_count::FaultCount;
@@ -12,27 +12,29 @@ use std::rt::Files;
 use std::{fs, io};
 use urpf_base::{Failed, Sink, Source};
 
-/// The file at a path. Contracts see it as that path and its count of faults.
+/// The file at a path. It owns the path and the runtime value, so that a feed over it can go into a
+/// box. Contracts see it as its path and its count of faults.
 #[derive(Drop)]
-pub struct FileSource<'a, R: Files> {
-    rt: &'a R,
-    path: &'a str,
+pub struct FileSource<R: Files> {
+    rt: R,
+    path: String,
     file: Option<R::File>,
     faults: FaultCount,
 }
 
-impl<'a, R: Files> Model for FileSource<'a, R> {
+impl<R: Files> Model for FileSource<R> {
+    ghost use Rattle.std.specs.Prelude.{string_bytes};
     ghost use Rattle.feed_io.specs.Memory.{NamedFile};
 
     ghost Value = { NamedFile };
 
-    ghost view = { λ s. record { path = s.path.now; faults = s.faults } };
+    ghost view = { λ s. record { path = string_bytes s.path; faults = s.faults } };
 }
 
-impl<'a, R: Files> FileSource<'a, R> {
+impl<R: Files> FileSource<R> {
     /// Nothing is opened yet.
-    pub fn new(rt: &'a R, path: &'a str) -> FileSource<'a, R>
-        ensures path { result.path ≡ path.now }
+    pub fn new(rt: R, path: String) -> FileSource<R>
+        ensures path { result.path ≡ string_bytes path }
         ensures faults { result.faults ≡ 0 }
     {
         FileSource {
@@ -64,13 +66,13 @@ fn read_opened<R: Files>(
     }
 }
 
-impl<'a, R: Files> Source for FileSource<'a, R> {
+impl<R: Files + Drop> Source for FileSource<R> {
     ghost left = { λ _. None };
 
     ghost faults = { λ s. s.faults };
 
     fn read(&mut self, buf: &mut [u8]) -> Result<usize, Failed> {
-        let answer = read_opened(self.rt, self.path, &mut self.file, buf);
+        let answer = read_opened(&self.rt, self.path.as_str(), &mut self.file, buf);
         self.faults.counted(answer)
     }
 }

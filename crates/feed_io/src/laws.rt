@@ -1,4 +1,5 @@
-//! Laws on the trace format, as contracts of functions without code.
+//! Laws on the trace format and on what the generator sends, as contracts of functions without
+//! code.
 ghost use Rattle.std.specs.Prelude.{◌≡◌, ℕ, ◌<◌, List, [], ◌∷◌, ◌++◌, length, None};
 ghost use Rattle.urpf_base.specs.Series.{Begins, SpellsAll};
 ghost use Rattle.feed_io.specs.Events.{Event, octets};
@@ -6,13 +7,22 @@ ghost use Rattle.feed_io.specs.Spelling.{SpellsEvent, SpellsPiece};
 ghost use Rattle.feed_io.specs.Traces.{event_front, trace_events};
 
 use crate::limited::TRACE_OCTETS;
+use crate::messages::{
+    AS_PATH, AS_SEQUENCE, CAPABILITIES, FOUR_OCTET_AS, KEEPALIVE, NEXT_HOP, OPEN, ORIGIN, SPEAKER,
+    UPDATE,
+};
 use crate::trace_head::{DOWN, ELAPSED, OCTETS, UP};
 
-/// The first octets of events have these numbers, and the limit of a trace is 4 TiB. Definitions
-/// cite them by name.
+/// The first octets of events have these numbers, and the limit of a trace is 4 TiB. The messages
+/// of the generator have the numbers of RFC 4271, sections 4.1 and 4.3, RFC 5492, section 4, and
+/// RFC 6793, section 3. Definitions cite them by name.
 pub fn assigned_numbers()
     ensures codes { (UP ≡ 1) × (OCTETS ≡ 2) × (DOWN ≡ 3) × (ELAPSED ≡ 4) }
     ensures limit { TRACE_OCTETS ≡ 4398046511104 }
+    ensures messages { (OPEN ≡ 1) × (UPDATE ≡ 2) × (KEEPALIVE ≡ 4) }
+    ensures capability { (CAPABILITIES ≡ 2) × (FOUR_OCTET_AS ≡ 65) }
+    ensures attributes { (ORIGIN ≡ 1) × (AS_PATH ≡ 2) × (NEXT_HOP ≡ 3) × (AS_SEQUENCE ≡ 2) }
+    ensures speaker { SPEAKER ≡ 64499 }
 {}
 
 /// A trace that is spellings of events has just these events, whatever stands behind them is read

@@ -1,5 +1,5 @@
 //! Tests of feed_io through its public calls: feeds, sources and sinks over memory and files, and
-//! traces.
+//! traces, and the generator.
 //!
 //! Nothing but tests is here. A crate that has tests of its own is proved twice, with them and
 //! without.

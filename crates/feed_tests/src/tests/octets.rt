@@ -2,6 +2,7 @@
 use feed_io::{FileSource, MemSink, MemSource, OutSink, SureSink, SureSource};
 use std::io::{ErrorKind, Write};
 use std::process::Abort;
+use std::rt::Files;
 use std::{fs, io};
 use urpf_base::{Failed, Sink, TextFault, read_text, write_all};
 
@@ -65,15 +66,20 @@ fn a_sink_with_little_room_takes_a_front(rt: HostRuntime) {
     assert_eq!(rt; SureSink::new().write(b"abc"), Ok(3));
 }
 
+/// The file at this path.
+fn file_at<'a, R: Abort + AllocGlobal + Files>(rt: &'a R, path: &str) -> FileSource<&'a R> {
+    FileSource::new(rt, String::from_str(rt.alloc(), path).expect(rt, "memory"))
+}
+
 #[test]
 fn the_adapters_read_and_write_a_file(rt: HostRuntime) {
     let mut sink = OutSink::new(fs::create(&rt, "written").expect(&rt, "a file"));
     assert_eq!(rt; write_all(&mut sink, b"some octets"), Ok(()));
     drop(sink);
-    let mut file = FileSource::new(&rt, "written");
+    let mut file = file_at(&rt, "written");
     let text = read_text(rt.alloc(), &mut file, 100).expect(&rt, "a text");
     assert_eq!(rt; text.as_slice(), b"some octets".as_slice());
-    let missing = read_text(rt.alloc(), &mut FileSource::new(&rt, "missing"), 100);
+    let missing = read_text(rt.alloc(), &mut file_at(&rt, "missing"), 100);
     assert_eq!(rt; missing.err(), Some(TextFault::Failed));
 }
 

@@ -1,5 +1,5 @@
 //! An engine that is filled with rows.
-ghost use Rattle.std.specs.Prelude.{◌≡◌, ◌<◌, ◌^◌, length};
+ghost use Rattle.std.specs.Prelude.{◌≡◌, [], IfOk, OnErr, length};
 ghost use Rattle.rpf_plain.specs.World.{roles_of};
 
 use router_config::{Edit, Kinds};
@@ -19,7 +19,9 @@ pub struct Filled {
 
 impl Filled {
     /// An engine of these interfaces without rows.
-    pub fn new(alloc: Global, kinds: Kinds) -> Result<Filled, OutOfMemory> {
+    pub fn new(alloc: Global, kinds: Kinds) -> Result<Filled, OutOfMemory>
+        ensures { IfOk result (λ filled. filled.engine.world.rows ≡ []) }
+    {
         let engine = PlainEngine::new(alloc, &kinds)?;
         Ok(Filled {
             engine,
@@ -29,7 +31,9 @@ impl Filled {
     }
 
     /// Adds a row of a configured interface. Nothing is added on another.
-    pub fn add(&mut self, row: &Row) -> Result<(), OutOfMemory> {
+    pub fn add(&mut self, row: &Row) -> Result<(), OutOfMemory>
+        ensures { OnErr result (self.new.engine ≡ self.old.engine) }
+    {
         if self.kinds.kind(row.iface).is_none() || self.rows >= 0xff_ffff_ffff {
             return Ok(());
         }
@@ -39,7 +43,9 @@ impl Filled {
     }
 
     /// Gives a configured interface a role.
-    pub fn set_role(&mut self, iface: IfaceId, role: Role) -> Result<(), OutOfMemory> {
+    pub fn set_role(&mut self, iface: IfaceId, role: Role) -> Result<(), OutOfMemory>
+        ensures { OnErr result (self.new.engine ≡ self.old.engine) }
+    {
         if self.kinds.kind(iface).is_none() {
             return Ok(());
         }
@@ -49,12 +55,16 @@ impl Filled {
     }
 
     /// How many cells changed since the drain before.
-    pub fn drain(&mut self) -> Result<u64, OutOfMemory> {
+    pub fn drain(&mut self) -> Result<u64, OutOfMemory>
+        ensures { OnErr result (self.new.engine ≡ self.old.engine) }
+    {
         Ok(self.engine.drain_changes()?.items().len() as u64)
     }
 
     /// How many rows there are.
-    pub fn rows(&self) -> u64 {
+    pub fn rows(&self) -> u64
+        ensures { result ≡ length self.now.engine.world.rows }
+    {
         self.rows
     }
 }

@@ -1,5 +1,5 @@
 //! What is measured, as the words of the command say.
-ghost use Rattle.std.specs.Prelude.{◌≤◌, ◌<◌, IfSome};
+ghost use Rattle.std.specs.Prelude.{◌≤◌, IfSome};
 
 use ip_text::read_number;
 
@@ -15,7 +15,9 @@ pub struct Sizes {
 impl Sizes {
     /// The sizes that these words say: from 1 to 16,000,000, from 1 to 64, from 1 to 4,000,000, and
     /// `ascending` or `none`. None where they say none.
-    pub fn read(words: &[String]) -> Option<Sizes> {
+    pub fn read(words: &[String]) -> Option<Sizes>
+        ensures { IfSome result (λ sizes. (1 ≤ sizes.count) × (sizes.count ≤ 16000000)) }
+    {
         if words.len() != 4 {
             return None;
         }

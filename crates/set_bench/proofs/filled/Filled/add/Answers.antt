@@ -1,4 +1,4 @@
-use Rattle.std.proofs.Common.{◌≡◌, ◌+◌, ◌∷◌, length, ap, not, sym, subst, ◌∙◌, arith}
+use Rattle.std.proofs.Common.{◌∷◌, ap, not, sym, subst, ◌∙◌, arith}
 use Rattle.std.specs.Option.{IsSome}
 use Rattle.rpf_plain.specs.World.{IsConfigured}
 use Rattle.rpf_plain.proofs.Counted.{same_length}

@@ -1,4 +1,4 @@
-use Rattle.std.proofs.Common.{◌≡◌, length, ap, not, sym, subst, ◌∙◌}
+use Rattle.std.proofs.Common.{length, ap, not, sym, subst, ◌∙◌}
 use Rattle.std.specs.Option.{IsSome}
 use Rattle.rpf_plain.specs.World.{IsConfigured, roles_of, with_role}
 use Rattle.rpf_plain.proofs.Listed.{configured, roles_edited}

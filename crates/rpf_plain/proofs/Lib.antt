@@ -9,6 +9,7 @@ pub mod Made
 pub mod Masks
 pub mod Members
 pub mod Modal
+pub mod Narrower
 pub mod Orders
 pub mod Paired
 pub mod Reached
@@ -19,3 +20,5 @@ pub mod Told
 pub mod Turns
 pub mod Unheard
 pub mod Verdicts
+pub mod Wider
+pub mod WiderModes

@@ -79,7 +79,7 @@ pub rest_of : (kinds : List (ℕ × Kind)) (n : ℕ) (k : ℕ × Kind) → n < l
 rest_of kinds n k within is = drop-cons kinds n k within ∙ (λ i. sym is i ∷ drop (sym (add-one n) i) kinds)
 
 -- numbers are compared either way
-either_way : (a b : ℕ) → (a == b) ≡ (b == a)
+pub either_way : (a b : ℕ) → (a == b) ≡ (b == a)
 either_way a b =
     elim (cases_Bool (a == b)) [
       | inl e ↦ e ∙ sym (eq-eqb b a (sym (eqb-true a b e)))
@@ -105,7 +105,7 @@ roles_edited iface role (k ∷ kinds) =
     (either_way iface k.0)
 
 -- the role of an interface is that of its kind
-role_of_kind : (kinds : List (ℕ × Kind)) (i : ℕ)
+pub role_of_kind : (kinds : List (ℕ × Kind)) (i : ℕ)
     → role_in (roles_of kinds) i ≡ option_map (λ k. k.role) (kind_in kinds i)
 role_of_kind [] i = refl
 role_of_kind (k ∷ kinds) i =

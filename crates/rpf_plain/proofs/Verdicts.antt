@@ -114,7 +114,8 @@ in_any a b within p h =
 module _ (a b : List Row) (within : AreIn a b) (roles : Roles) (pairs like : List Pair)
     (pairs_within : ArePairsIn pairs like) (i : ℕ) where
   -- the set of each mode has no fewer prefixes where there are more rows and pairs
-  in_mode : (m : Mode) (p : Block) → Has (set_in m (world roles pairs a) i) p → Has (set_in m (world roles like b) i) p
+  pub in_mode : (m : Mode) (p : Block) → Has (set_in m (world roles pairs a) i) p
+      → Has (set_in m (world roles like b) i) p
   in_mode Off p h = h
   in_mode Feasible p h = in_feasible a b within roles pairs like pairs_within i p h
   in_mode Loose p h = in_any a b within p h
@@ -124,7 +125,7 @@ module _ (a b : List Row) (within : AreIn a b) (roles : Roles) (pairs like : Lis
   in_mode EfpA p h = in_list a b within roles pairs like pairs_within i p h
   in_mode EfpB p h = in_z a b within roles pairs like pairs_within p h
 
-  covers_by : (kind : Kind) (source : Addr) → SomeCovers (set_of kind (world roles pairs a) i) source
+  pub covers_by : (kind : Kind) (source : Addr) → SomeCovers (set_of kind (world roles pairs a) i) source
       → SomeCovers (set_of kind (world roles like b) i) source
   covers_by kind source some =
       let (p, has, covers) = some in (p, in_mode (mode_for kind.role kind.mode) p has, covers)

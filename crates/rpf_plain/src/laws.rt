@@ -1,6 +1,6 @@
 //! What holds of all rows, cells, verdicts and tables, for crates that cite it. The functions do nothing.
 ghost use Rattle.std.specs.Prelude.{◌≡◌, ◌↔◌, ◌<◌, ◌+◌, ◌++◌, ℕ, List, [], length};
-ghost use Rattle.std.specs.Prelude.{Option, Some, IsSome};
+ghost use Rattle.std.specs.Prelude.{Option, Some, IsSome, IsTrue};
 ghost use Rattle.std.specs.FinMap as map;
 ghost use Rattle.urpf_base.specs.Address.{Block};
 ghost use Rattle.urpf_base.specs.Kinds.{mode_for};
@@ -10,14 +10,18 @@ ghost use Rattle.urpf_base.specs.declared.cells.Cell.{Cell};
 ghost use Rattle.urpf_base.specs.declared.cells.CellChange.{CellChange};
 ghost use Rattle.urpf_base.specs.declared.kinds.Kind.{Kind};
 ghost use Rattle.urpf_base.specs.declared.verdicts.Verdict.{Verdict};
+ghost use Rattle.urpf_base.specs.declared.verdicts.Verdict.TheVariants as verdict;
 ghost use Rattle.router_config.specs.Edits.{edited};
 ghost use Rattle.router_config.specs.Kinds.{kind_in};
 ghost use Rattle.prefix_map.specs.Mapped.{Mapped};
 ghost use Rattle.rpf_plain.specs.Cells.{IsCell, IsDifference, IsTable};
-ghost use Rattle.rpf_plain.specs.Modes.{IsVerdict, Says, set_of};
+ghost use Rattle.rpf_plain.specs.Modes.{IsVerdict, Says, set_in, set_of};
 ghost use Rattle.rpf_plain.specs.Rows.{AreSameRows, repeats};
+ghost use Rattle.rpf_plain.specs.Sets.{any, feasible, has_origin, list_a, list_a_with_pairs, set_a, set_p};
+ghost use Rattle.rpf_plain.specs.Sets.{set_z, set_z_with_pairs};
 ghost use Rattle.origin_pairs.specs.Pairs.{AreSamePairs, Pair};
-ghost use Rattle.rpf_plain.specs.World.{IsConfigured, Roles, World, role_in, roles_of, with_pair, with_role};
+ghost use Rattle.rpf_plain.specs.World.{IsConfigured, Roles, World, is_customer, role_in, roles_of};
+ghost use Rattle.rpf_plain.specs.World.{with_pair, with_role};
 ghost use Rattle.rpf_plain.specs.declared.rows.Row.{Row};
 
 use router_config::Edit;
@@ -103,4 +107,108 @@ pub fn difference_laws()
     ensures some { (old new : World) → (changes : List CellChange) × IsDifference old new changes }
     ensures one { (old new : World) (a b : List CellChange)
         → IsDifference old new a → IsDifference old new b → a ≡ b }
+{}
+
+/// That the set of a customer's interface widens from feasible paths over Algorithm A and Algorithm B to
+/// loose mode, which RFC 8704 orders so by how much each lets in.
+pub fn widening()
+    // The list by Algorithm A has each prefix of a customer's interface whose routes all have an origin
+    // (RFC 8704, section 3.1.1, steps 1 to 3).
+    ensures feasible_in_a { (w : World) (i : ℕ) → IsTrue (is_customer w.roles i)
+        → ((row : Row) → Has w.rows row → row.iface ≡ i → IsSome row.origin)
+        → (p : Block) → Has (feasible w i) p → Has (list_a w i) p }
+    // It has just those prefixes of an interface to which some route, on whatever interface, has an origin
+    // in Set A (RFC 8704, section 3.1.1, steps 2 and 3).
+    ensures kept_in_a { (w : World) (i : ℕ) (p : Block) → Has (feasible w i) p
+        → Has (list_a w i) p
+        ↔ ((row : Row) × Has w.rows row × (row.prefix ≡ p) × IsTrue (has_origin (set_a w) row.origin)) }
+    // Set Z has each list by Algorithm A (RFC 8704, section 3.4, steps 2, 4 and 5).
+    ensures a_in_z { (w : World) (i : ℕ) (p : Block) → Has (list_a w i) p → Has (set_z w) p }
+    // It has each prefix of a customer's interface, with an origin or without (RFC 8704, section 3.4, step 2).
+    ensures feasible_in_z { (w : World) (i : ℕ) → IsTrue (is_customer w.roles i)
+        → (p : Block) → Has (feasible w i) p → Has (set_z w) p }
+    // Loose mode has all of Set Z (RFC 8704, section 2.4; RFC 3704, section 2.4).
+    ensures z_in_any { (w : World) (p : Block) → Has (set_z w) p → Has (any w) p }
+{}
+
+/// That each premise of `widening` is needed.
+pub fn widening_needs()
+    // A path of a customer ends in an AS_SET, so no origin AS is known and no Set X has its prefix
+    // (RFC 8704, section 3.1.1, steps 1 and 2; RFC 4271, section 4.3).
+    ensures origin { (w : World) × (i : ℕ) × (p : Block)
+        × IsTrue (is_customer w.roles i) × Has (feasible w i) p × ¬ Has (list_a w i) p }
+    // An origin that is heard on no customer's interface is not in Set A, and its prefix is not in Set P
+    // (RFC 8704, sections 3.1.1, step 1, and 3.4, steps 2 and 3).
+    ensures customer { (w : World) × (i : ℕ) × (p : Block)
+        × ((row : Row) → Has w.rows row → IsSome row.origin)
+        × Has (feasible w i) p × (¬ Has (list_a w i) p) × ¬ Has (set_z w) p }
+{}
+
+/// That no two of the sets are always one: each may have a prefix that the one before it lacks.
+pub fn widening_is_strict()
+    // A customer announces one prefix here, and another one, which no customer's interface has, to a peer
+    // (RFC 8704, section 2.3, figure 1).
+    ensures a { (w : World) × (i : ℕ) × (p : Block) × IsTrue (is_customer w.roles i)
+        × Has (list_a w i) p × (¬ Has (set_p w) p) × ¬ Has (feasible w i) p }
+    // A prefix with an origin is announced over one of two customers, and nothing over the other (RFC 8704,
+    // section 3.3, figure 4).
+    ensures z { (w : World) × (i : ℕ) × (p : Block) × IsTrue (is_customer w.roles i)
+        × ((row : Row) → Has w.rows row → IsSome row.origin) × Has (set_z w) p × ¬ Has (list_a w i) p }
+    // Loose mode lets in what peers and providers alone announce (RFC 8704, section 2.4).
+    ensures any { (w : World) × (p : Block) × Has (any w) p × ¬ Has (set_z w) p }
+{}
+
+/// How the sets widen with the prefixes of pairs in them (RFC 8704, section 3.5).
+pub fn widening_with_pairs()
+    // Pairs only add to a list by Algorithm A and to Set Z.
+    ensures more { (w : World) (i : ℕ) (p : Block)
+        → (Has (list_a w i) p → Has (list_a_with_pairs w i) p) × (Has (set_z w) p → Has (set_z_with_pairs w) p) }
+    // An AS with a route on a customer's interface is in Set A, so what its pairs add to the list they add
+    // to Set Z.
+    ensures a_in_z { (w : World) (i : ℕ) → IsTrue (is_customer w.roles i)
+        → (p : Block) → Has (list_a_with_pairs w i) p → Has (set_z_with_pairs w) p }
+    // On the interface of a peer they need not.
+    ensures customer { (w : World) × (i : ℕ) × (p : Block)
+        × Has (list_a_with_pairs w i) p × ¬ Has (set_z_with_pairs w) p }
+    // Loose mode has no pairs, so it may lack what a pair adds to Set Z.
+    ensures any { (w : World) × (p : Block) × Has (set_z_with_pairs w) p × ¬ Has (any w) p }
+{}
+
+/// That an edit to a wider mode makes no interface drop a source that it let in.
+pub fn wider_modes()
+    // On a customer's interface whose routes all have an origin (RFC 8704, section 3.1.1).
+    ensures feasible_to_a { (kinds : List (ℕ × Kind)) (i : ℕ) (rows : List Row) (pairs : List Pair)
+        → kind_in kinds i ≡ Some (record { role = Role.Customer; mode = Mode.Feasible })
+        → ((row : Row) → Has rows row → row.iface ≡ i → IsSome row.origin)
+        → (source : Option Addr) → IsVerdict kinds rows pairs i source verdict.Pass
+        → IsVerdict (edited (Edit.Mode i Mode.EfpA) kinds) rows pairs i source verdict.Pass }
+    // Set Z has the prefixes of all customers' interfaces (RFC 8704, section 3.4, step 2).
+    ensures feasible_to_b { (kinds : List (ℕ × Kind)) (i : ℕ) (rows : List Row) (pairs : List Pair) (role : Role)
+        → kind_in kinds i ≡ Some (record { role = role; mode = Mode.Feasible })
+        → (source : Option Addr) → IsVerdict kinds rows pairs i source verdict.Pass
+        → IsVerdict (edited (Edit.Mode i Mode.EfpB) kinds) rows pairs i source verdict.Pass }
+    // Algorithm B is the more flexible one (RFC 8704, section 3.4).
+    ensures a_to_b { (kinds : List (ℕ × Kind)) (i : ℕ) (rows : List Row) (pairs : List Pair) (role : Role)
+        → kind_in kinds i ≡ Some (record { role = role; mode = Mode.EfpA })
+        → (source : Option Addr) → IsVerdict kinds rows pairs i source verdict.Pass
+        → IsVerdict (edited (Edit.Mode i Mode.EfpB) kinds) rows pairs i source verdict.Pass }
+    // Where there are no pairs, which loose mode does not have (RFC 8704, sections 2.4 and 3.4).
+    ensures b_to_loose { (kinds : List (ℕ × Kind)) (i : ℕ) (rows : List Row) (role : Role)
+        → kind_in kinds i ≡ Some (record { role = role; mode = Mode.EfpB })
+        → (source : Option Addr) → IsVerdict kinds rows [] i source verdict.Pass
+        → IsVerdict (edited (Edit.Mode i Mode.Loose) kinds) rows [] i source verdict.Pass }
+{}
+
+/// That more routes and pairs let in no less: the sets are unions (RFC 8704, sections 3.1.1 and 3.4), which
+/// pairs augment (section 3.5).
+pub fn more_routes()
+    // The set of each mode has its prefixes still.
+    ensures sets { (v w : World) → v.roles ≡ w.roles → ((row : Row) → Has v.rows row → Has w.rows row)
+        → ((pair : Pair) → Has v.pairs pair → Has w.pairs pair)
+        → (mode : Mode) (i : ℕ) (p : Block) → Has (set_in mode v i) p → Has (set_in mode w i) p }
+    // A source that passes still does.
+    ensures passes { (kinds : List (ℕ × Kind)) (rows others : List Row) → ((row : Row) → Has rows row → Has others row)
+        → (pairs like : List Pair) → ((pair : Pair) → Has pairs pair → Has like pair)
+        → (i : ℕ) (source : Option Addr) → IsVerdict kinds rows pairs i source verdict.Pass
+        → IsVerdict kinds others like i source verdict.Pass }
 {}

@@ -24,7 +24,8 @@ mod writer;
 
 pub use engine::SetEngine;
 pub use laws::{
-    cell_laws, difference_laws, role_laws, row_laws, table_laws, unheard_pair, verdict_laws,
+    cell_laws, difference_laws, more_routes, role_laws, row_laws, table_laws, unheard_pair,
+    verdict_laws, widening, widening_is_strict, widening_needs, widening_with_pairs, wider_modes,
 };
 pub use plain::PlainEngine;
 pub use rows::Row;

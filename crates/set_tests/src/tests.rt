@@ -5,4 +5,5 @@ mod fed;
 mod refused;
 mod slow;
 mod worked;
+mod worked_figures;
 mod worked_pairs;

@@ -23,6 +23,7 @@ pub mod RowLengths
 pub mod RunLaws
 pub mod Saying
 pub mod SomeRun
+pub mod Slots
 pub mod Standing
 pub mod Summaries
 pub mod TakenOver

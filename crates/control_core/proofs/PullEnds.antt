@@ -151,24 +151,30 @@ end_had (Err fault) err = subst (λ (f : RunFault). HadMemory {T = Unit {0}} (Er
 pub ends_until : (count : Option ℕ) (fault : RunFault) (old mid new : PeerState) (limits : Limits)
     → IsTurnFault old.number fault → old.ended ≡ false → mid.ended ≡ false
     → asks_more count (mid.session.items - old.session.items) ≡ true
-    → mid.session.items < limits.items → Counts (Err fault) mid new limits → EndsBy count limits old new (Err fault)
-ends_until count (ReadFault session) old mid new limits is begun unmet asks few counts = (
+    → mid.session.items < limits.items → Counts (Err fault) mid new limits → (fault ≡ OutOfMemory → new ≡ mid)
+    → EndsBy count limits old new (Err fault)
+ends_until count (ReadFault session) old mid new limits is begun unmet asks few counts kept = (
   is,
   (begun, counts.1 ∙ unmet, ap (λ (n : ℕ). asks_more count (n - old.session.items)) counts.0 ∙ asks),
   omega (arith, counts.0, few),
   counts.2,
   counts.3,
 )
-ends_until count WriteFault old mid new limits is begun unmet asks few counts = absurd counts
-ends_until count (ItemLimit session) old mid new limits is begun unmet asks few counts = absurd counts
-ends_until count (OctetLimit session) old mid new limits is begun unmet asks few counts = (
+ends_until count WriteFault old mid new limits is begun unmet asks few counts kept = absurd counts
+ends_until count (ItemLimit session) old mid new limits is begun unmet asks few counts kept = absurd counts
+ends_until count (OctetLimit session) old mid new limits is begun unmet asks few counts kept = (
   is,
   (begun, counts.1 ∙ unmet, ap (λ (n : ℕ). asks_more count (n - old.session.items)) counts.0 ∙ asks),
   omega (arith, counts.0, few),
   counts.2,
   counts.3,
 )
-ends_until count OutOfMemory old mid new limits is begun unmet asks few counts = tt
+ends_until count OutOfMemory old mid new limits is begun unmet asks few counts kept =
+    let same : new ≡ mid = kept refl in (
+      begun,
+      ap (λ (p : PeerState). p.ended) same ∙ unmet,
+      ap (λ (p : PeerState). asks_more count (p.session.items - old.session.items)) same ∙ asks,
+    )
 
 -- a pull after the end does nothing
 pub pull_after_end : (count : Option ℕ) (limits : Limits) (left : Option (List Event)) (held : Option (List ℕ))

@@ -3,7 +3,6 @@ use Rattle.std.specs.Prelude.{◌≡◌, ℕ, ◌+◌, ◌≤◌, false, List, [
 use Rattle.std.specs.Prelude.{slice_get, slice_set, sum}
 use Rattle.std.specs.List.{AllByRecursion}
 use Rattle.urpf_base.specs.Address.{Block}
-use Rattle.urpf_base.specs.Faults.{CountsFault}
 use Rattle.urpf_base.specs.declared.address.Addr.{Addr}
 use Rattle.urpf_base.specs.declared.cells.CellChange.{CellChange}
 use Rattle.urpf_base.specs.declared.kinds.Kind.{Kind}
@@ -23,7 +22,7 @@ use Rattle.session_fsm.specs.declared.items.Effect.{Effect}
 use Rattle.control_core.specs.declared.limits.Limits.{Limits}
 use Rattle.control_core.specs.declared.limits.RunFault.{RunFault}
 use Rattle.control_core.specs.History.{StandsFor}
-use Rattle.control_core.specs.Pulls.{Pull}
+use Rattle.control_core.specs.Slots.{CountsSlot, PullsSlot}
 use Rattle.control_core.specs.Judging.{Absorbs}
 use Rattle.control_core.specs.States.{ControlState, PeerState, Published}
 use Rattle.control_core.specs.Worlds.{Course, IsWorldAt, Opening, Position, last_number, pairs_edited}
@@ -116,28 +115,29 @@ pub record KeepsKinds (old new : ControlState) : Type 0 where
   pub kinds : new.kinds ≡ old.kinds
   pub edits : new.edits ≡ old.edits
 
--- the session of this number is pulled: no other one changes, and no other feed is asked
+-- the session of this number is pulled: no other one changes, and no other slot
 pub record PullsOne {F : Type 0} (left : F → Option (List Event)) (session : ℕ) (count : Option ℕ) (limits : Limits)
-    (old_feeds new_feeds : List F) (old_held new_held : Option (List ℕ)) (result : Result (Unit {0}) RunFault)
-    (old new : List PeerState) : Type 0 where
+    (old_slots new_slots : List (Option F)) (old_held new_held : Option (List ℕ))
+    (result : Result (Unit {0}) RunFault) (old new : List PeerState) : Type 0 where
   pub peer : PeerState
   pub was : slice_get old session ≡ Some peer
   pub number : peer.number ≡ session
   pub later : PeerState
   pub is : new ≡ slice_set old session later
-  pub feed : F
-  pub had : slice_get old_feeds session ≡ Some feed
-  pub next : F
-  pub has : new_feeds ≡ slice_set old_feeds session next
-  pub pull : Pull count limits (left feed) (left next) old_held new_held result peer later
+  pub slot : Option F
+  pub had : slice_get old_slots session ≡ Some slot
+  pub next : Option F
+  pub has : new_slots ≡ slice_set old_slots session next
+  pub pull : PullsSlot left count limits slot next old_held new_held result peer later
 
--- the faults of one feed of several
-pub record CountsOne {F : Type 0} (faults : F → ℕ) (session : ℕ) (failed : Type 0) (old new : List F) : Type 0 where
-  pub feed : F
-  pub had : slice_get old session ≡ Some feed
-  pub next : F
+-- the faults of the feed in one slot of several
+pub record CountsOne {F : Type 0} (faults : F → ℕ) (session : ℕ) (failed : Type 0)
+    (old new : List (Option F)) : Type 0 where
+  pub slot : Option F
+  pub had : slice_get old session ≡ Some slot
+  pub next : Option F
   pub has : new ≡ slice_set old session next
-  pub counts : CountsFault failed (faults feed) (faults next)
+  pub counts : CountsSlot faults failed slot next
 
 -- the session's course with more events of its feed, and the effects of more items
 abbrev pub goes_on : Course → List Event → List Effect → Course

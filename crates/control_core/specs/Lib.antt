@@ -11,6 +11,7 @@ pub mod Loads
 pub mod Openings
 pub mod Peers
 pub mod Pulls
+pub mod Slots
 pub mod Runs
 pub mod States
 pub mod Table

@@ -109,7 +109,7 @@ EndsBy count limits old new (Err (ItemLimit session)) =
 EndsBy count limits old new (Err (OctetLimit session)) =
     (session ≡ old.number) × IsAsked count old new × (new.session.items < limits.items) × (limits.octets ≤ new.octets)
     × IsShort new.held
-EndsBy count limits old new (Err OutOfMemory) = Unit {0}
+EndsBy count limits old new (Err OutOfMemory) = IsAsked count old new
 
 -- a session within a limit stays within it
 abbrev pub StaysWithin : Limits → PeerState → PeerState → Type 0

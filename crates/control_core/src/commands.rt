@@ -29,7 +29,7 @@ use crate::published::PublishedCells;
 use crate::publishing::publish_cells;
 use crate::pulling::{pull_one, wants_memory};
 use crate::set_edits::{add_pairs, edit_sets};
-use feed_io::Feed;
+use feed_io::{BoxedFeed, Feed};
 use report_text::put_summary;
 use roa_irr::Pairs;
 use router_config::{Config, Edit};
@@ -91,11 +91,12 @@ impl<E: SetEngine> Control<E> {
     }
 
     /// Takes the next `count` items of a session, or all, and offers the line of each reset and that of
-    /// the end to the sink. A pull after the end does nothing, and neither does one after want of
-    /// memory. No other session changes, and no other feed is asked.
-    pub fn pull<F: Feed, K: Sink>(
+    /// the end to the sink. The feed is taken out of its slot at its end, and dropped. A pull of an empty
+    /// slot does nothing, and neither does one after the end or after want of memory. No other session
+    /// changes, no other feed is asked, and no other slot is emptied.
+    pub fn pull<K: Sink>(
         &mut self,
-        feeds: &mut Vec<F>,
+        feeds: &mut Vec<Option<Box<dyn Feed + Send>>>,
         session: u32,
         count: Option<u64>,
         out: &mut K,
@@ -103,7 +104,7 @@ impl<E: SetEngine> Control<E> {
         requires session { session < length self.old.peers }
         requires slots { length feeds.old.items ≡ length self.old.peers }
         ensures pull { self.old.exhausted ≡ false
-            → PullsOne F.left session count self.old.limits feeds.old.items feeds.new.items
+            → PullsOne ⟦<BoxedFeed as Feed>⟧.left session count self.old.limits feeds.old.items feeds.new.items
             (K.held out.old) (K.held out.new) result self.old.peers self.new.peers }
         ensures stands { (opening : Opening) (edits : List Edit) (courses : List Course) (course : Course)
             (peer : PeerState) (gave : List Event) (more : List Effect)
@@ -113,7 +114,7 @@ impl<E: SetEngine> Control<E> {
             → ControlStandsFor opening edits (slice_set courses session (goes_on course gave more)) self.new }
         ensures published { KeepsPublished self.old self.new }
         ensures kinds { KeepsKinds self.old self.new }
-        ensures feed { CountsOne F.faults session (result ≡ Err (RunFault.ReadFault session))
+        ensures feed { CountsOne ⟦<BoxedFeed as Feed>⟧.faults session (result ≡ Err (RunFault.ReadFault session))
             feeds.old.items feeds.new.items }
         ensures sink { CountsFault (result ≡ Err RunFault.WriteFault)
             (K.faults out.old) (K.faults out.new) }

@@ -12,6 +12,7 @@ ghost use Rattle.control_core.specs.Kept.{IsKept};
 ghost use Rattle.control_core.specs.Peers.{peer_of};
 ghost use Rattle.control_core.specs.Pulls.{Pull, reset_text};
 ghost use Rattle.control_core.specs.Pulls as pulls;
+ghost use Rattle.control_core.specs.Slots.{CountsSlot, PullsSlot};
 
 use crate::counted_engine::CountedEngine;
 use crate::limits::{ITEM_LIMIT, Limits, RunFault};
@@ -24,7 +25,7 @@ use std::alloc::Global;
 use urpf_base::{Line, ResetCause, Sink};
 
 /// Takes the next `count` items of the session, or all, within the limits.
-pub fn pull_items<E: SetEngine, F: Feed, K: Sink>(
+fn pull_items<E: SetEngine, F: Feed, K: Sink>(
     alloc: Global,
     peering: &mut Peering,
     sets: &mut CountedEngine<E>,
@@ -64,24 +65,55 @@ pub fn pull_items<E: SetEngine, F: Feed, K: Sink>(
     Ok(())
 }
 
+/// Takes the next items of the feed in the slot of a session, and drops the feed at its end. An empty
+/// slot is left so.
+fn pull_slot<E: SetEngine, F: Feed, K: Sink>(
+    alloc: Global,
+    peering: &mut Peering,
+    sets: &mut CountedEngine<E>,
+    limits: &Limits,
+    slot: &mut Option<F>,
+    count: Option<u64>,
+    out: &mut K,
+) -> Result<(), RunFault>
+    requires small { limits.now.items ≤ ITEM_LIMIT }
+    requires unmet { peering.old.ended ≡ false }
+    requires ready { HasSession peering.old.session.config.iface peering.old.rib sets.old }
+    ensures pull { PullsSlot F.left count limits.now slot.old slot.new
+        (K.held out.old) (K.held out.new) result (peer_of peering.old) (peer_of peering.new) }
+    ensures feed { CountsSlot F.faults (result ≡ Err (RunFault.ReadFault peering.old.number)) slot.old slot.new }
+    ensures sink { CountsFault (result ≡ Err RunFault.WriteFault)
+        (K.faults out.old) (K.faults out.new) }
+    ensures rows { RowsFollow peering.old.session.config.iface peering.old.rib peering.new.rib sets.old sets.new }
+{
+    let Some(feed) = slot else {
+        return Ok(());
+    };
+    let result = pull_items(alloc, peering, sets, limits, feed, count, out);
+    if peering.ended {
+        *slot = None;
+    }
+    result
+}
+
 /// Takes the next items of one session of several. A session whose feed came to its end is left alone.
 pub fn pull_one<E: SetEngine, F: Feed, K: Sink>(
     alloc: Global,
     peers: &mut Vec<Peering>,
     sets: &mut CountedEngine<E>,
     limits: &Limits,
-    feeds: &mut Vec<F>,
+    slots: &mut Vec<Option<F>>,
     session: u32,
     count: Option<u64>,
     out: &mut K,
 ) -> Result<(), RunFault>
     requires session { session < vec_len peers.old }
-    requires slots { vec_len feeds.old ≡ vec_len peers.old }
+    requires slots { vec_len slots.old ≡ vec_len peers.old }
     requires kept { (kinds : List (ℕ × Kind)) × IsKept (map peer_of peers.old.items) kinds sets.old limits.now }
-    ensures pull { PullsOne F.left session count limits.now feeds.old.items feeds.new.items
+    ensures pull { PullsOne F.left session count limits.now slots.old.items slots.new.items
         (K.held out.old) (K.held out.new) result (map peer_of peers.old.items) (map peer_of peers.new.items) }
     ensures feed { CountsOne F.faults session (result ≡ Err (RunFault.ReadFault session))
-        feeds.old.items feeds.new.items }
+        slots.old.items slots.new.items }
     ensures sink { CountsFault (result ≡ Err RunFault.WriteFault)
         (K.faults out.old) (K.faults out.new) }
     ensures kept { (kinds : List (ℕ × Kind)) → IsKept (map peer_of peers.old.items) kinds sets.old limits.now
@@ -93,12 +125,12 @@ pub fn pull_one<E: SetEngine, F: Feed, K: Sink>(
     if peers[place].ended {
         return Ok(());
     }
-    pull_items(
+    pull_slot(
         alloc,
         &mut peers[place],
         sets,
         limits,
-        &mut feeds[place],
+        &mut slots[place],
         count,
         out,
     )

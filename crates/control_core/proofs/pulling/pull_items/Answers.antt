@@ -240,7 +240,8 @@ returns-in-Err-clause-pull g c =
       ends = ends_until c.args.count c.in-Err.fault (peer_of c.args.peering.now) (peer_of c.loop-alloc.peering)
           (peer_of c.turn.new.self) c.args.limits.now
           (subst (λ (n : ℕ). IsTurnFault n c.in-Err.fault) c.loop-alloc.invariant.number c.in-Err.ensures.fault)
-          c.requires.unmet c.loop-alloc.invariant.unmet asks few c.in-Err.ensures.counts;
+          c.requires.unmet c.loop-alloc.invariant.unmet asks few c.in-Err.ensures.counts
+          (λ is. c.in-Err.ensures.memory (ap Err is));
       most = takes_until c.args.count c.in-Err.fault (peer_of c.args.peering.now) (peer_of c.loop-alloc.peering)
           (peer_of c.turn.new.self) c.args.limits.now c.loop-alloc.invariant.most asks c.in-Err.ensures.counts;
       within =

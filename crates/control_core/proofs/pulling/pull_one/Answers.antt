@@ -4,7 +4,6 @@ use Rattle.std.specs.Prelude.{slice_get}
 use Rattle.std.specs.Option.{option_map}
 use Rattle.std.proofs.lemmas.List.{map-set}
 use Rattle.std.proofs.lemmas.Option.{slice_get-map, slice_get_read}
-use Rattle.urpf_base.specs.Faults.{CountsFault}
 use Rattle.urpf_base.specs.declared.kinds.Kind.{Kind}
 use Rattle.rpf_plain.specs.Engine.{EngineState}
 use Rattle.control_core.specs.declared.limits.Limits.{Limits}
@@ -12,11 +11,11 @@ use Rattle.control_core.specs.declared.limits.RunFault.TheVariants.{ReadFault}
 use Rattle.control_core.specs.declared.peering.Peering.{Peering}
 use Rattle.control_core.specs.Kept.{IsKept}
 use Rattle.control_core.specs.Peers.{peer_of}
+use Rattle.control_core.specs.Slots.{CountsSlot}
 use Rattle.control_core.specs.States.{PeerState}
-use Rattle.control_core.proofs.FaultCounts.{counts_none}
 use Rattle.control_core.proofs.Many.{kept_set, number_at, ready_at}
 use Rattle.control_core.proofs.Places.{set_same, some_at}
-use Rattle.control_core.proofs.PullEnds.{pull_after_end}
+use Rattle.control_core.proofs.Slots.{counts_slot, keeps_session, slot_at_end}
 use Rattle.control_core.proofs.pulling.pull_one.Goals as goal
 
 -- a session of several, as contracts see it
@@ -34,8 +33,8 @@ pub returns-then-index-clause-pull : goal.returns-then-index-clause-pull
 returns-then-index-clause-pull g c =
     let there = peer_at c.args.peers.now.items _ c.args.session c.index.result.now c.args.peers.now.ok.0
     c.requires.session c.index.ensures in
-    let feed = some_at c.args.feeds.now.items c.args.session
-    (omega (arith, c.requires.session, c.requires.slots, c.args.feeds.now.ok.0)) in
+    let slot = some_at c.args.slots.now.items c.args.session
+    (omega (arith, c.requires.session, c.requires.slots, c.args.slots.now.ok.0)) in
     record {
       peer = peer_of c.index.result.now;
       was = there;
@@ -43,27 +42,28 @@ returns-then-index-clause-pull g c =
           c.args.session (peer_of c.index.result.now) c.requires.kept.1 there;
       later = peer_of c.index.result.now;
       is = set_same (map peer_of c.args.peers.now.items) c.args.session (peer_of c.index.result.now) there;
-      feed = feed.0;
-      had = feed.1;
-      next = feed.0;
-      has = set_same c.args.feeds.now.items c.args.session feed.0 feed.1;
-      pull = pull_after_end c.args.count c.args.limits.now _ _ (peer_of c.index.result.now) c.if-index.true;
+      slot = slot.0;
+      had = slot.1;
+      next = slot.0;
+      has = set_same c.args.slots.now.items c.args.session slot.0 slot.1;
+      pull = slot_at_end g.F.Feed.left c.args.count c.args.limits.now slot.0 _ (peer_of c.index.result.now)
+          c.if-index.true;
     }
 
 pub returns-then-index-clause-feed : goal.returns-then-index-clause-feed
 returns-then-index-clause-feed g c =
-    let feed = some_at c.args.feeds.now.items c.args.session
-    (omega (arith, c.requires.session, c.requires.slots, c.args.feeds.now.ok.0)) in
+    let slot = some_at c.args.slots.now.items c.args.session
+    (omega (arith, c.requires.session, c.requires.slots, c.args.slots.now.ok.0)) in
     record {
-      feed = feed.0;
-      had = feed.1;
-      next = feed.0;
-      has = set_same c.args.feeds.now.items c.args.session feed.0 feed.1;
-      counts = counts_none _ _ refl (λ clash. cc);
+      slot = slot.0;
+      had = slot.1;
+      next = slot.0;
+      has = set_same c.args.slots.now.items c.args.session slot.0 slot.1;
+      counts = counts_slot g.F.Feed.faults slot.0 (λ clash. cc);
     }
 
-pub pull_items-requires-clause-ready : goal.pull_items-requires-clause-ready
-pull_items-requires-clause-ready g c =
+pub pull_slot-requires-clause-ready : goal.pull_slot-requires-clause-ready
+pull_slot-requires-clause-ready g c =
     ready_at (map peer_of c.args.peers.now.items) c.requires.kept.0 c.args.sets.now c.args.limits.now c.args.session
     (peer_of c.index_mut.result.now) c.requires.kept.1
     (peer_at c.args.peers.now.items _ c.args.session c.index_mut.result.now c.args.peers.now.ok.0 c.requires.session
@@ -78,14 +78,14 @@ returns-clause-pull g c =
       was = there;
       number = number_is (map peer_of c.args.peers.now.items) c.requires.kept.0 c.args.sets.now c.args.limits.now
           c.args.session (peer_of c.index_mut.result.now) c.requires.kept.1 there;
-      later = peer_of c.pull_items.new.peering;
-      is = map-set peer_of c.args.peers.now.items c.args.session c.pull_items.new.peering;
-      feed = c.index_mut-2.result.now;
-      had = slice_get_read c.args.feeds.now.items _ c.args.session c.index_mut-2.result.now c.args.feeds.now.ok.0
+      later = peer_of c.pull_slot.new.peering;
+      is = map-set peer_of c.args.peers.now.items c.args.session c.pull_slot.new.peering;
+      slot = c.index_mut-2.result.now;
+      had = slice_get_read c.args.slots.now.items _ c.args.session c.index_mut-2.result.now c.args.slots.now.ok.0
           (omega (arith, c.requires.session, c.requires.slots)) c.index_mut-2.ensures.value;
-      next = c.pull_items.new.feed;
+      next = c.pull_slot.new.slot;
       has = refl;
-      pull = c.pull_items.ensures.pull;
+      pull = c.pull_slot.ensures.pull;
     }
 
 pub returns-clause-feed : goal.returns-clause-feed
@@ -96,22 +96,23 @@ returns-clause-feed g c =
     number_is (map peer_of c.args.peers.now.items) c.requires.kept.0 c.args.sets.now c.args.limits.now c.args.session
     (peer_of c.index_mut.result.now) c.requires.kept.1 there in
     record {
-      feed = c.index_mut-2.result.now;
-      had = slice_get_read c.args.feeds.now.items _ c.args.session c.index_mut-2.result.now c.args.feeds.now.ok.0
+      slot = c.index_mut-2.result.now;
+      had = slice_get_read c.args.slots.now.items _ c.args.session c.index_mut-2.result.now c.args.slots.now.ok.0
           (omega (arith, c.requires.session, c.requires.slots)) c.index_mut-2.ensures.value;
-      next = c.pull_items.new.feed;
+      next = c.pull_slot.new.slot;
       has = refl;
-      counts = subst (λ (n : ℕ). CountsFault (c.pull_items.result ≡ Err (ReadFault n))
-          (g.F.Feed.faults c.index_mut-2.result.now) (g.F.Feed.faults c.pull_items.new.feed))
-          number c.pull_items.ensures.feed;
+      counts = subst (λ (n : ℕ). CountsSlot g.F.Feed.faults (c.pull_slot.result ≡ Err (ReadFault n))
+          c.index_mut-2.result.now c.pull_slot.new.slot) number c.pull_slot.ensures.feed;
     }
 
 pub returns-clause-kept : goal.returns-clause-kept
 returns-clause-kept g c = λ kinds kept.
     let there = peer_at c.args.peers.now.items _ c.args.session c.index_mut.result.now c.args.peers.now.ok.0
     c.requires.session c.index_mut.ensures.value in
-    subst (λ (ps : List PeerState). IsKept ps kinds c.pull_items.new.sets c.args.limits.now)
-    (sym (map-set peer_of c.args.peers.now.items c.args.session c.pull_items.new.peering))
-    (kept_set (map peer_of c.args.peers.now.items) kinds c.args.sets.now c.pull_items.new.sets c.args.limits.now
-    c.args.session (peer_of c.index_mut.result.now) (peer_of c.pull_items.new.peering) kept there
-    c.pull_items.ensures.pull.config c.pull_items.ensures.pull.number c.pull_items.ensures.rows)
+    let keeps = keeps_session _ _ _ c.index_mut-2.result.now c.pull_slot.new.slot _ _ _
+    (peer_of c.index_mut.result.now) (peer_of c.pull_slot.new.peering) c.pull_slot.ensures.pull in
+    subst (λ (ps : List PeerState). IsKept ps kinds c.pull_slot.new.sets c.args.limits.now)
+    (sym (map-set peer_of c.args.peers.now.items c.args.session c.pull_slot.new.peering))
+    (kept_set (map peer_of c.args.peers.now.items) kinds c.args.sets.now c.pull_slot.new.sets c.args.limits.now
+    c.args.session (peer_of c.index_mut.result.now) (peer_of c.pull_slot.new.peering) kept there
+    keeps.config keeps.number c.pull_slot.ensures.rows)

@@ -2,9 +2,9 @@ use Rattle.std.proofs.Common.{refl, sym, subst, arith}
 use Rattle.control_core.specs.Controls.{ControlStandsFor}
 use Rattle.control_core.specs.Kept.{IsKept}
 use Rattle.control_core.specs.States.{ControlState}
-use Rattle.control_core.proofs.FaultCounts.{counts_none}
 use Rattle.control_core.proofs.Places.{set_same, some_at}
-use Rattle.control_core.proofs.StandsPulled.{stands_by_pull, stands_still}
+use Rattle.control_core.proofs.Slots.{counts_slot}
+use Rattle.control_core.proofs.StandsPulled.{pulls_of_control, stands_by_pull, stands_still}
 use Rattle.control_core.proofs.control.Control.pull.Goals as goal
 
 pub returns-then-self-clause-stands : goal.returns-then-self-clause-stands
@@ -15,14 +15,17 @@ returns-then-self-clause-stands g c = λ opening edits courses course peer gave 
 
 pub returns-then-self-clause-feed : goal.returns-then-self-clause-feed
 returns-then-self-clause-feed g c =
-    let feed = some_at c.args.feeds.now.items c.args.session (omega (arith, c.requires.session, c.requires.slots)) in
+    let slot = some_at c.args.feeds.now.items c.args.session (omega (arith, c.requires.session, c.requires.slots)) in
     record {
-      feed = feed.0;
-      had = feed.1;
-      next = feed.0;
-      has = set_same c.args.feeds.now.items c.args.session feed.0 feed.1;
-      counts = counts_none _ _ refl (λ clash. cc);
+      slot = slot.0;
+      had = slot.1;
+      next = slot.0;
+      has = set_same c.args.feeds.now.items c.args.session slot.0 slot.1;
+      counts = counts_slot _ slot.0 (λ clash. cc);
     }
+
+pub returns-clause-pull : goal.returns-clause-pull
+returns-clause-pull g c = λ able. pulls_of_control _ _ c.self.view_is c.pull_one-result.ensures.pull
 
 pub returns-clause-stands : goal.returns-clause-stands
 returns-clause-stands g c = λ opening edits courses course peer gave more stands got there later.

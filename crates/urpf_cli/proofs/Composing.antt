@@ -5,7 +5,6 @@ use Rattle.std.specs.List.{concat}
 use Rattle.std.proofs.lemmas.List.{append-nil}
 use Rattle.std.proofs.lemmas.List.Folds.{concat-append}
 use Rattle.urpf_base.proofs.Growth.{Appends-append}
-use Rattle.feed_io.specs.Events.{Event}
 use Rattle.runbook.specs.declared.lines.BookLine.{BookLine}
 use Rattle.control_core.specs.States.{ControlState}
 use Rattle.control_core.specs.declared.limits.RunFault.{RunFault}
@@ -13,7 +12,8 @@ use Rattle.control_core.proofs.PullLaws.{appends_none}
 use Rattle.urpf_cli.specs.Inputs.{Input, Run}
 use Rattle.urpf_cli.specs.Places.{Place, next_place, place_after}
 use Rattle.urpf_cli.specs.RunText.{GiveAll}
-use Rattle.urpf_cli.specs.Runs.{IsAt, RanStep, RanSteps, StepStops}
+use Rattle.urpf_cli.specs.Runs.{AreTexts, IsAt, RanStep, RanSteps, StepStops, TookAll}
+use Rattle.urpf_cli.specs.Slots.{Slot}
 use Rattle.urpf_cli.specs.Steps.{Step, pull, pulls_of, steps_in, steps_of}
 use Rattle.urpf_cli.proofs.SomeText.{some_texts}
 
@@ -35,10 +35,10 @@ give_append run place (step ∷ first) later (t ∷ texts) others given rest =
 
 -- one step is some steps
 pub one_step : (run : Run) (place : Place) (step : Step) (result : Result (Unit {0}) RunFault)
-    (control : ControlState) (rounds : ℕ) (lefts : List (Option (List Event))) (old new : Option (List ℕ))
-    → RanStep run place step result control rounds lefts old new
-    → RanSteps run place (step ∷ []) result control rounds lefts old new
-one_step run place step (Ok done) control rounds lefts old new ran = (
+    (control : ControlState) (rounds : ℕ) (slots : List Slot) (old new : Option (List ℕ))
+    → RanStep run place step result control rounds slots old new
+    → RanSteps run place (step ∷ []) result control rounds slots old new
+one_step run place step (Ok done) control rounds slots old new ran = (
   record {
     text = ran.0.text;
     is = (ran.0.text ∷ [], (ran.0.is, tt), sym (append-nil ran.0.text));
@@ -46,44 +46,59 @@ one_step run place step (Ok done) control rounds lefts old new ran = (
   },
   ran.1,
 )
-one_step run place step (Err fault) control rounds lefts old new ran = (
+one_step run place step (Err fault) control rounds slots old new ran = (
   record {
     front = ran.0.front;
     more = ran.0.more;
     is = ((ran.0.front ++ ran.0.more) ∷ [], (ran.0.is, tt), sym (append-nil (ran.0.front ++ ran.0.more)));
     appended = ran.0.appended;
   },
-  record { before = []; step = step; later = []; parts = refl; stops = ran.1 },
+  record {
+    before = [];
+    step = step;
+    later = [];
+    parts = refl;
+    mid = old;
+    took = record { text = []; is = ([], tt, refl); appended = appends_none old };
+    stops = ran.1;
+  },
 )
 
 -- no step writes nothing
-pub no_steps : (run : Run) (place : Place) (control : ControlState) (rounds : ℕ) (lefts : List (Option (List Event)))
-    (held : Option (List ℕ)) → IsAt run place control rounds lefts
-    → RanSteps run place [] (Ok tt) control rounds lefts held held
-no_steps run place control rounds lefts held is =
+pub no_steps : (run : Run) (place : Place) (control : ControlState) (rounds : ℕ) (slots : List Slot)
+    (held : Option (List ℕ)) → IsAt run place control rounds slots
+    → RanSteps run place [] (Ok tt) control rounds slots held held
+no_steps run place control rounds slots held is =
     (record { text = []; is = ([], tt, refl); appended = appends_none held }, is)
+
+-- texts that were taken, and those behind them
+then_texts : (run : Run) (place : Place) (first later : List Step) (old mid new : Option (List ℕ))
+    → TookAll (AreTexts run place first) old mid
+    → TookAll (AreTexts run (place_after run.inputs first place) later) mid new
+    → TookAll (AreTexts run place (first ++ later)) old new
+then_texts run place first later old mid new a b = record {
+  text = a.text ++ b.text;
+  is = (
+    a.is.0 ++ b.is.0,
+    give_append run place first later a.is.0 b.is.0 a.is.1 b.is.1,
+    ap (λ (t : List ℕ). t ++ b.text) a.is.2 ∙ ap (λ (t : List ℕ). concat a.is.0 ++ t) b.is.2
+        ∙ sym (concat-append a.is.0 b.is.0),
+  );
+  appended = Appends-append old mid new a.text b.text a.appended b.appended;
+}
 
 -- steps that ended well, and those behind them
 pub then_steps : (run : Run) (place : Place) (first later : List Step) (result : Result (Unit {0}) RunFault)
-    (mid_control control : ControlState) (mid_rounds rounds : ℕ) (mid_lefts lefts : List (Option (List Event)))
+    (mid_control control : ControlState) (mid_rounds rounds : ℕ) (mid_slots slots : List Slot)
     (old mid new : Option (List ℕ))
-    → RanSteps run place first (Ok tt) mid_control mid_rounds mid_lefts old mid
-    → RanSteps run (place_after run.inputs first place) later result control rounds lefts mid new
-    → RanSteps run place (first ++ later) result control rounds lefts old new
-then_steps run place first later (Ok done) mid_control control mid_rounds rounds mid_lefts lefts old mid new a b = (
-  record {
-    text = a.0.text ++ b.0.text;
-    is = (
-      a.0.is.0 ++ b.0.is.0,
-      give_append run place first later a.0.is.0 b.0.is.0 a.0.is.1 b.0.is.1,
-      ap (λ (t : List ℕ). t ++ b.0.text) a.0.is.2 ∙ ap (λ (t : List ℕ). concat a.0.is.0 ++ t) b.0.is.2
-          ∙ sym (concat-append a.0.is.0 b.0.is.0),
-    );
-    appended = Appends-append old mid new a.0.text b.0.text a.0.appended b.0.appended;
-  },
-  subst (λ (p : Place). IsAt run p control rounds lefts) (sym (place_after-append run.inputs first later place)) b.1,
+    → RanSteps run place first (Ok tt) mid_control mid_rounds mid_slots old mid
+    → RanSteps run (place_after run.inputs first place) later result control rounds slots mid new
+    → RanSteps run place (first ++ later) result control rounds slots old new
+then_steps run place first later (Ok done) mid_control control mid_rounds rounds mid_slots slots old mid new a b = (
+  then_texts run place first later old mid new a.0 b.0,
+  subst (λ (p : Place). IsAt run p control rounds slots) (sym (place_after-append run.inputs first later place)) b.1,
 )
-then_steps run place first later (Err fault) mid_control control mid_rounds rounds mid_lefts lefts old mid new a b = (
+then_steps run place first later (Err fault) mid_control control mid_rounds rounds mid_slots slots old mid new a b = (
   record {
     front = a.0.text ++ b.0.front;
     more = b.0.more;
@@ -101,17 +116,19 @@ then_steps run place first later (Err fault) mid_control control mid_rounds roun
     later = b.1.later;
     parts = ap (λ (ss : List Step). first ++ ss) b.1.parts
         ∙ sym (append_assoc first b.1.before (b.1.step ∷ b.1.later));
-    stops = subst (λ (p : Place). StepStops run p b.1.step lefts fault)
+    mid = b.1.mid;
+    took = then_texts run place first b.1.before old mid b.1.mid a.0 b.1.took;
+    stops = subst (λ (p : Place). StepStops run p b.1.step slots fault b.1.mid new)
         (sym (place_after-append run.inputs first b.1.before place)) b.1.stops;
   },
 )
 
 -- steps that stopped are so also where others stand behind them
 pub steps_stop : (run : Run) (place : Place) (first later : List Step) (fault : RunFault) (control : ControlState)
-    (rounds : ℕ) (lefts : List (Option (List Event))) (old new : Option (List ℕ))
-    → RanSteps run place first (Err fault) control rounds lefts old new
-    → RanSteps run place (first ++ later) (Err fault) control rounds lefts old new
-steps_stop run place first later fault control rounds lefts old new a =
+    (rounds : ℕ) (slots : List Slot) (old new : Option (List ℕ))
+    → RanSteps run place first (Err fault) control rounds slots old new
+    → RanSteps run place (first ++ later) (Err fault) control rounds slots old new
+steps_stop run place first later fault control rounds slots old new a =
     let rest = some_texts run (place_after run.inputs first place) later in (
       record {
         front = a.0.front;
@@ -130,6 +147,8 @@ steps_stop run place first later fault control rounds lefts old new a =
         later = a.1.later ++ later;
         parts = ap (λ (ss : List Step). ss ++ later) a.1.parts
             ∙ append_assoc a.1.before (a.1.step ∷ a.1.later) later;
+        mid = a.1.mid;
+        took = a.1.took;
         stops = a.1.stops;
       },
     )
@@ -166,36 +185,36 @@ steps_of-append sessions (line ∷ first) later =
 
 -- one session more was pulled
 pub pulls_next : (run : Run) (place : Place) (session : ℕ) (count : Option ℕ) (mid_control control : ControlState)
-    (mid_rounds rounds : ℕ) (mid_lefts lefts : List (Option (List Event))) (old mid new : Option (List ℕ))
-    → RanSteps run place (pulls_of session count) (Ok tt) mid_control mid_rounds mid_lefts old mid
+    (mid_rounds rounds : ℕ) (mid_slots slots : List Slot) (old mid new : Option (List ℕ))
+    → RanSteps run place (pulls_of session count) (Ok tt) mid_control mid_rounds mid_slots old mid
     → RanStep run (place_after run.inputs (pulls_of session count) place) (pull session count) (Ok tt) control rounds
-    lefts mid new
-    → RanSteps run place (pulls_of (session + 1) count) (Ok tt) control rounds lefts old new
-pulls_next run place session count mid_control control mid_rounds rounds mid_lefts lefts old mid new first next =
-    subst (λ (n : ℕ). RanSteps run place (pulls_of n count) (Ok tt) control rounds lefts old new)
+    slots mid new
+    → RanSteps run place (pulls_of (session + 1) count) (Ok tt) control rounds slots old new
+pulls_next run place session count mid_control control mid_rounds rounds mid_slots slots old mid new first next =
+    subst (λ (n : ℕ). RanSteps run place (pulls_of n count) (Ok tt) control rounds slots old new)
     (sym (add-one session))
     (then_steps run place (pulls_of session count) (pull session count ∷ []) (Ok tt) mid_control control mid_rounds
-    rounds mid_lefts lefts old mid new first
+    rounds mid_slots slots old mid new first
     (one_step run (place_after run.inputs (pulls_of session count) place) (pull session count) (Ok tt) control rounds
-    lefts mid new next))
+    slots mid new next))
 
 -- a session whose pull stopped, and those behind it
 pub pull_among : (run : Run) (place : Place) (sessions session : ℕ) (count : Option ℕ) (fault : RunFault)
-    (mid_control control : ControlState) (mid_rounds rounds : ℕ) (mid_lefts lefts : List (Option (List Event)))
+    (mid_control control : ControlState) (mid_rounds rounds : ℕ) (mid_slots slots : List Slot)
     (old mid new : Option (List ℕ)) → session < sessions
-    → RanSteps run place (pulls_of session count) (Ok tt) mid_control mid_rounds mid_lefts old mid
+    → RanSteps run place (pulls_of session count) (Ok tt) mid_control mid_rounds mid_slots old mid
     → RanStep run (place_after run.inputs (pulls_of session count) place) (pull session count) (Err fault) control
-    rounds lefts mid new
-    → RanSteps run place (pulls_of sessions count) (Err fault) control rounds lefts old new
-pull_among run place sessions session count fault mid_control control mid_rounds rounds mid_lefts lefts old mid new
+    rounds slots mid new
+    → RanSteps run place (pulls_of sessions count) (Err fault) control rounds slots old new
+pull_among run place sessions session count fault mid_control control mid_rounds rounds mid_slots slots old mid new
     less first next =
     let parted = pulls_parted sessions session count less in
     let parts : pulls_of sessions count ≡ (pulls_of session count ++ pull session count ∷ []) ++ parted.0 =
     parted.1 ∙ sym (append_assoc (pulls_of session count) (pull session count ∷ []) parted.0) in
-    subst (λ (ss : List Step). RanSteps run place ss (Err fault) control rounds lefts old new) (sym parts)
-    (steps_stop run place (pulls_of session count ++ pull session count ∷ []) parted.0 fault control rounds lefts old
+    subst (λ (ss : List Step). RanSteps run place ss (Err fault) control rounds slots old new) (sym parts)
+    (steps_stop run place (pulls_of session count ++ pull session count ∷ []) parted.0 fault control rounds slots old
     new
     (then_steps run place (pulls_of session count) (pull session count ∷ []) (Err fault) mid_control control mid_rounds
-    rounds mid_lefts lefts old mid new first
+    rounds mid_slots slots old mid new first
     (one_step run (place_after run.inputs (pulls_of session count) place) (pull session count) (Err fault) control
-    rounds lefts mid new next)))
+    rounds slots mid new next)))

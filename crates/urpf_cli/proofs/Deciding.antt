@@ -1,15 +1,12 @@
 -- Words, texts and a number of sessions open a run or decide a refusal.
 use Rattle.std.proofs.Common.{◌≡◌, ◌⊎◌, ℕ, ◌<◌, ◌≤◌, List, [], ◌∷◌, ◌++◌, length, drop, refl, sym, ap, ◌∙◌, subst}
 use Rattle.std.proofs.Common.{inl, inr, min}
-use Rattle.std.proofs.Common.{Bool, true, false, Option, Some, None}
+use Rattle.std.proofs.Common.{Option, Some, None}
 use Rattle.std.specs.Prelude.{codes, IsUtf8}
-use Rattle.std.specs.Bool.{Decides}
 use Rattle.std.specs.List.{All, AllByRecursion}
-use Rattle.std.specs.Str.{bytes_eq}
 use Rattle.std.proofs.lemmas.Bool.{cases_lt}
 use Rattle.std.proofs.lemmas.Bool.Decides.{Decides-eqb}
 use Rattle.std.proofs.lemmas.List.Elements.{All-from_recursion, recursion_from_All}
-use Rattle.std.proofs.lemmas.Slice.Eq.{bytes_eq-Decides}
 use Rattle.std.proofs.lemmas.Str.{IsUtf8-from_is_utf8, is_utf8-from_IsUtf8}
 use Rattle.toml.specs.Data.{Members}
 use Rattle.toml.specs.Data as toml
@@ -38,32 +35,9 @@ use Rattle.urpf_cli.specs.declared.opening.TheConstants.{BOOK_OCTETS, CONFIG_OCT
 use Rattle.urpf_cli.specs.declared.pair_table.TheConstants.{PAIRS_OCTETS}
 use Rattle.urpf_cli.specs.declared.words.TableForm.{TableForm}
 use Rattle.urpf_cli.specs.declared.words.TableForm.TheVariants.{Vrp, Irr}
+use Rattle.urpf_cli.proofs.Decisions.{both_or_not, decided, either_or_not, generator_or_not, implies_or_not, not_or, same_or_not}
+use Rattle.urpf_cli.proofs.Decisions.{turned}
 use Rattle.urpf_cli.proofs.TableLaws.{some_table}
-
-decided : {P : Type 0} (r : Bool) → Decides r P → P ⊎ (¬ P)
-decided true is = inl (is.0 refl)
-decided false is = inr (λ p. let clash = is.1 p in cc)
-
-both_or_not : {P Q : Type 0} → P ⊎ (¬ P) → Q ⊎ (¬ Q) → (P × Q) ⊎ (¬ (P × Q))
-both_or_not (inl p) (inl q) = inl (p, q)
-both_or_not (inl p) (inr never) = inr (λ pq. never pq.1)
-both_or_not (inr never) q = inr (λ pq. never pq.0)
-
-either_or_not : {P Q : Type 0} → P ⊎ (¬ P) → Q ⊎ (¬ Q) → (P ⊎ Q) ⊎ (¬ (P ⊎ Q))
-either_or_not (inl p) q = inl (inl p)
-either_or_not (inr never) (inl q) = inl (inr q)
-either_or_not (inr never) (inr none) = inr (λ one. elim one [ inl p ↦ never p | inr q ↦ none q ])
-
-turned : {P Q : Type 0} → (P → Q) → (Q → P) → P ⊎ (¬ P) → Q ⊎ (¬ Q)
-turned forth back (inl p) = inl (forth p)
-turned forth back (inr never) = inr (λ q. never (back q))
-
-not_or : {P : Type 0} → P ⊎ (¬ P) → (¬ P) ⊎ (¬ (¬ P))
-not_or (inl p) = inr (λ never. never p)
-not_or (inr never) = inl never
-
-same_or_not : (xs ys : List ℕ) → (xs ≡ ys) ⊎ (¬ (xs ≡ ys))
-same_or_not xs ys = decided (bytes_eq xs ys) (bytes_eq-Decides xs ys)
 
 name_or_not : (word : List ℕ) → IsName word ⊎ (¬ (IsName word))
 name_or_not word = both_or_not (not_or (same_or_not word [])) (not_or (same_or_not word (codes ":")))
@@ -86,7 +60,8 @@ begins_or_not (c ∷ front) (x ∷ word) =
     rest x c xs cs is = cc
 
 session_word_or_not : (word : List ℕ) → IsSessionWord word ⊎ (¬ (IsSessionWord word))
-session_word_or_not word = both_or_not (name_or_not word) (not_or (begins_or_not (codes "gen:") word))
+session_word_or_not word =
+    both_or_not (name_or_not word) (implies_or_not (begins_or_not (codes "gen:") word) (generator_or_not word))
 
 each_or_not : (words : List (List ℕ)) → AllByRecursion IsSessionWord words ⊎ (¬ (AllByRecursion IsSessionWord words))
 each_or_not [] = inl tt

@@ -1,23 +1,27 @@
 -- The text of a run, out of its head, its steps and its closing line.
-use Rattle.std.proofs.Common.{◌≡◌, ℕ, ◌≤◌, List, ◌++◌, length, map, take, drop, Option, Result, Ok, Err}
+use Rattle.std.proofs.Common.{◌≡◌, ℕ, ◌≤◌, List, ◌∷◌, ◌++◌, length, map, take, drop, Option, Result, Ok, Err}
 use Rattle.std.proofs.Common.{ap, refl, sym, subst, ◌∙◌, append_assoc}
 use Rattle.std.specs.Prelude.{OnErr, OnOk, IfErr}
 use Rattle.std.specs.List.{concat}
 use Rattle.std.specs.Io.KnownBytes.{Appends}
 use Rattle.std.proofs.lemmas.List.{take-append-drop}
 use Rattle.urpf_base.proofs.Growth.{Appends-append}
-use Rattle.feed_io.specs.Events.{Event}
 use Rattle.report_text.specs.Lines.{done_line, publish_line, run_line}
 use Rattle.urpf_base.specs.declared.sessions.SessionConfig.{SessionConfig}
 use Rattle.runbook.specs.declared.lines.BookLine.{BookLine}
 use Rattle.control_core.specs.States.{ControlState}
 use Rattle.control_core.specs.Worlds.{last_number}
 use Rattle.control_core.specs.declared.limits.RunFault.{RunFault}
+use Rattle.control_core.specs.declared.limits.RunFault.TheVariants.{ItemLimit, OctetLimit, OutOfMemory, ReadFault}
 use Rattle.control_core.specs.declared.limits.RunFault.TheVariants.{WriteFault}
 use Rattle.urpf_cli.specs.Inputs.{Run}
-use Rattle.urpf_cli.specs.Places.{opening}
+use Rattle.urpf_cli.specs.Places.{opening, place_after}
 use Rattle.urpf_cli.specs.RunText.{AreTotals, IsHead, IsRunText, head_text, last_place, steps_for}
-use Rattle.urpf_cli.specs.Runs.{AreTexts, RanBook, RanSteps, StopsAtLimit, TookAll, TookFront}
+use Rattle.urpf_cli.specs.Runs.{AreTexts, PullStops, RanBook, RanSteps, RunKnows, StepsStop, StopsAtLimit, TookAll}
+use Rattle.urpf_cli.specs.Runs.{TookFront, WroteKnown}
+use Rattle.urpf_cli.specs.Slots.{Slot}
+use Rattle.urpf_cli.specs.Steps.{Step}
+use Rattle.urpf_cli.proofs.Emptied.{emptied_at, empties_all, empties_some}
 use Rattle.urpf_cli.proofs.Limiting.{none_filled, steps_limited}
 use Rattle.urpf_cli.specs.declared.run.Totals.{Totals}
 use Rattle.urpf_cli.proofs.SomeText.{some_text, text_with}
@@ -159,40 +163,87 @@ pub head_of : (run : Run) (totals : Totals) → AreTotals run.config run.table t
     → IsHead run (head_text totals run.config.sessions)
 head_of run totals are = record { totals = totals; are = are; same = refl }
 
+-- a failed write tells nothing of what is known
+pub write_knows : (run : Run) (steps : List Step) (slots : List Slot) (fault : RunFault) (old new : Option (List ℕ))
+    → fault ≡ WriteFault → RunKnows run steps slots fault old new
+write_knows run steps slots fault old new is = subst (λ (f : RunFault). RunKnows run steps slots f old new) (sym is) tt
+
+-- the head, the texts of the steps before a pull, and what the pull knows
+wrote_known : (run : Run) (steps : List Step) (slots : List Slot) (session : ℕ) (head : List ℕ) (before : List Step)
+    (step : Step) (later : List Step) (old first mid new : Option (List ℕ)) → IsHead run head → Appends old first head
+    → steps ≡ before ++ step ∷ later → TookAll (AreTexts run (opening run.config.sessions) before) first mid
+    → PullStops run (place_after run.inputs before (opening run.config.sessions)) step slots session mid new
+    → WroteKnown run steps slots session old new
+wrote_known run steps slots session head before step later old first mid new is_head opened parts took stops = record {
+  before = before;
+  count = stops.0;
+  later = later;
+  parts = parts ∙ ap (λ (s : Step). before ++ s ∷ later) stops.1;
+  head = head;
+  is_head = is_head;
+  texts = took.text;
+  are = took.is;
+  known = stops.2.text;
+  is_known = stops.2.is;
+  appended = Appends-append old first new head (took.text ++ stops.2.text) opened
+      (Appends-append first mid new took.text stops.2.text took.appended stops.2.appended);
+}
+
+-- what is written where steps stop behind the head
+run_knows : (run : Run) (steps : List Step) (slots : List Slot) (fault : RunFault) (head : List ℕ)
+    (old first new : Option (List ℕ)) → IsHead run head → Appends old first head
+    → StepsStop run (opening run.config.sessions) steps slots fault first new → RunKnows run steps slots fault old new
+run_knows run steps slots (ReadFault session) head old first new is_head opened stop =
+    wrote_known run steps slots session head stop.before stop.step stop.later old first stop.mid new is_head opened
+    stop.parts stop.took stop.stops.knows
+run_knows run steps slots WriteFault head old first new is_head opened stop = tt
+run_knows run steps slots (ItemLimit session) head old first new is_head opened stop =
+    wrote_known run steps slots session head stop.before stop.step stop.later old first stop.mid new is_head opened
+    stop.parts stop.took stop.stops.knows
+run_knows run steps slots (OctetLimit session) head old first new is_head opened stop =
+    wrote_known run steps slots session head stop.before stop.step stop.later old first stop.mid new is_head opened
+    stop.parts stop.took stop.stops.knows
+run_knows run steps slots OutOfMemory head old first new is_head opened stop = tt
+
 -- the head, and steps that stopped
 pub book_stopped : (run : Run) (lines : List BookLine) (fault : RunFault) (control : ControlState) (rounds : ℕ)
-    (lefts : List (Option (List Event))) (head : List ℕ) (old first new : Option (List ℕ)) → IsHead run head
+    (slots : List Slot) (head : List ℕ) (old first new : Option (List ℕ)) → IsHead run head
     → length run.config.sessions ≡ length run.inputs → Appends old first head
-    → RanSteps run (opening run.config.sessions) (steps_for run lines) (Err fault) control rounds lefts first new
-    → RanBook run lines (Err fault) lefts old new
-book_stopped run lines fault control rounds lefts head old first new is_head many opened ran = (
+    → RanSteps run (opening run.config.sessions) (steps_for run lines) (Err fault) control rounds slots first new
+    → RanBook run lines (Err fault) slots old new
+book_stopped run lines fault control rounds slots head old first new is_head many opened ran = (
   steps_front run lines head old first new is_head opened ran.0,
-  steps_limited run run.config.sessions (steps_for run lines) lefts fault many ran.1,
+  steps_limited run run.config.sessions (steps_for run lines) slots fault first new many ran.1,
+  empties_some run (steps_for run lines) slots fault first new ran.1,
+  run_knows run (steps_for run lines) slots fault head old first new is_head opened ran.1,
 )
 
 -- a failed write is no limit
-pub write_stops : (run : Run) (lines : List BookLine) (lefts : List (Option (List Event))) (fault : RunFault)
-    → fault ≡ WriteFault → StopsAtLimit run (steps_for run lines) lefts fault
-write_stops run lines lefts fault is =
-    subst (StopsAtLimit run (steps_for run lines) lefts) (sym is) tt
+pub write_stops : (run : Run) (lines : List BookLine) (slots : List Slot) (fault : RunFault)
+    → fault ≡ WriteFault → StopsAtLimit run (steps_for run lines) slots fault
+write_stops run lines slots fault is =
+    subst (StopsAtLimit run (steps_for run lines) slots) (sym is) tt
 
 -- the head, all steps, and a closing line that was offered
 pub book_ran : (run : Run) (lines : List BookLine) (number : ℕ) (text : List ℕ) (result : Result (Unit {0}) RunFault)
-    (control : ControlState) (rounds : ℕ) (lefts : List (Option (List Event))) (head : List ℕ)
+    (control : ControlState) (rounds : ℕ) (slots : List Slot) (head : List ℕ)
     (old first mid new : Option (List ℕ)) → IsHead run head → Appends old first head
-    → RanSteps run (opening run.config.sessions) (steps_for run lines) (Ok tt) control rounds lefts first mid
+    → RanSteps run (opening run.config.sessions) (steps_for run lines) (Ok tt) control rounds slots first mid
     → text ≡ done_line number 0 → number ≡ last_number control.marks → OnOk result (Appends mid new text)
     → OnErr result ((n : ℕ) × (n ≤ length text) × Appends mid new (take n text))
-    → IfErr result (λ fault. fault ≡ WriteFault) → RanBook run lines result lefts old new
-book_ran run lines number text (Ok done) control rounds lefts head old first mid new is_head opened ran same is
+    → IfErr result (λ fault. fault ≡ WriteFault) → RanBook run lines result slots old new
+book_ran run lines number text (Ok done) control rounds slots head old first mid new is_head opened ran same is
     ok cut err = (
       closing_wrote run lines number text head old first mid new is_head opened ran.0 same
-          (is ∙ number_at run (last_place run lines) control rounds lefts ran.1) ok,
-      none_filled run (steps_for run lines) control rounds lefts ran.1,
+          (is ∙ number_at run (last_place run lines) control rounds slots ran.1) ok,
+      none_filled run (steps_for run lines) control rounds slots ran.1,
+      emptied_at run (last_place run lines) control rounds slots ran.1,
     )
-book_ran run lines number text (Err fault) control rounds lefts head old first mid new is_head opened ran same is
+book_ran run lines number text (Err fault) control rounds slots head old first mid new is_head opened ran same is
     ok cut err = (
       closing_front run lines number text cut.0 head old first mid new is_head opened ran.0 same
-          (is ∙ number_at run (last_place run lines) control rounds lefts ran.1) cut.2,
-      write_stops run lines lefts fault err,
+          (is ∙ number_at run (last_place run lines) control rounds slots ran.1) cut.2,
+      write_stops run lines slots fault err,
+      empties_all run (steps_for run lines) slots (emptied_at run (last_place run lines) control rounds slots ran.1),
+      write_knows run (steps_for run lines) slots fault old new err,
     )

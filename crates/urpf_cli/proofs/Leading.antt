@@ -6,7 +6,6 @@ use Rattle.std.proofs.lemmas.Bool.Decides.{nat_tests}
 use Rattle.control_core.specs.declared.limits.Limits.{Limits}
 use Rattle.control_core.specs.declared.limits.RunFault.{RunFault}
 use Rattle.control_core.specs.declared.limits.RunFault.TheVariants as fault
-use Rattle.control_core.specs.Turns.{HadMemory}
 use Rattle.control_core.specs.States.{PeerState}
 use Rattle.control_core.specs.Pulls.{asks_more, met_end, EndsBy, TakesAtMost}
 use Rattle.urpf_cli.specs.Places.{Reached, pulled}
@@ -103,7 +102,7 @@ leads at count limits old new total taken ended all_taken within met most (inr (
     (leads_on total count at new.session.items (sym ended ∙ unmet) within (omega (arith, steps.0, taken))
     (λ n is. let few = steps.1 n is in omega (arith, few, taken)) asks)
 
-unmet_clash : (old new : PeerState) → new.ended ≡ false → met_end old new ≡ true → ⊥
+pub unmet_clash : (old new : PeerState) → new.ended ≡ false → met_end old new ≡ true → ⊥
 unmet_clash old new unmet met = never (not old.ended) (ap (λ (b : Bool). not old.ended && b) (sym unmet) ∙ met)
   where
     never : (b : Bool) → (b && false) ≡ true → ⊥
@@ -119,20 +118,21 @@ most_taken total (Some n) at old new taken most within = omega (arith, taken, mo
 -- a pull that stopped behind the end line had asked past the last item
 pub told_end : (total : ℕ) (count : Option ℕ) (at : Reached) (limits : Limits) (old new : PeerState) (fault : RunFault)
     (upto : ℕ)
-    → at.taken ≡ old.session.items → old.ended ≡ at.ended → HadMemory {T = Unit {0}} (Err fault)
+    → at.taken ≡ old.session.items → old.ended ≡ at.ended
     → EndsBy count limits old new (Err fault) → new.session.items ≡ upto → old.session.items ≤ new.session.items
     → upto ≡ total → met_end old new ≡ true
     → (upto ≡ (pulled total count at).taken) × ((not at.ended && (pulled total count at).ended) ≡ true)
-told_end total count at limits old new (fault.ReadFault n) upto taken ended had ends items from all met =
+told_end total count at limits old new (fault.ReadFault n) upto taken ended ends items from all met =
     absurd (unmet_clash old new ends.1.1 met)
-told_end total count at limits old new fault.WriteFault upto taken ended had ends items from all met =
+told_end total count at limits old new fault.WriteFault upto taken ended ends items from all met =
     let now : new.ended ≡ true = sym (ap (λ (b : Bool). not b && new.ended) ends.0) ∙ met in
     let asks : asks_more count (upto - at.taken) ≡ true = ap (λ (n : ℕ). asks_more count (upto - n)) taken
     ∙ ap (λ (n : ℕ). asks_more count (n - old.session.items)) (sym items) ∙ ends.1 now in
     let lead = leads_to_end total count at upto all (omega (arith, taken, from, items)) asks in
     (sym lead.taken_is, ap (λ (b : Bool). not b && (pulled total count at).ended) (sym ended ∙ ends.0) ∙ lead.ended_is)
-told_end total count at limits old new (fault.ItemLimit n) upto taken ended had ends items from all met =
+told_end total count at limits old new (fault.ItemLimit n) upto taken ended ends items from all met =
     absurd (unmet_clash old new ends.1.1 met)
-told_end total count at limits old new (fault.OctetLimit n) upto taken ended had ends items from all met =
+told_end total count at limits old new (fault.OctetLimit n) upto taken ended ends items from all met =
     absurd (unmet_clash old new ends.1.1 met)
-told_end total count at limits old new fault.OutOfMemory upto taken ended had ends items from all met = absurd had
+told_end total count at limits old new fault.OutOfMemory upto taken ended ends items from all met =
+    absurd (unmet_clash old new ends.1 met)

@@ -26,10 +26,11 @@ use Rattle.urpf_cli.specs.Limits.{PullFillsOctets}
 use Rattle.urpf_cli.specs.Limits.{StaysBelow, StepFills, asked_of}
 use Rattle.urpf_cli.specs.Places.{Reached, not_begun, opening, place_after, reached_at}
 use Rattle.urpf_cli.specs.Runs.{FillNone, IsAt, IsSessionAt, StepsStop, StopsAtLimit}
+use Rattle.urpf_cli.specs.Slots.{Slot, left_in}
 use Rattle.urpf_cli.specs.Steps.{Step, pull}
 use Rattle.urpf_cli.proofs.Asking.{asked_of-append, asked_of-pull, asks_here, asks_none, reached_after, session_reached}
 use Rattle.urpf_cli.proofs.Knowing.{input_length, octets_within, took_length}
-use Rattle.urpf_cli.proofs.PullStep.{input_at}
+use Rattle.urpf_cli.proofs.PullsAt.{input_at}
 use Rattle.urpf_cli.proofs.SessionsAt.{session_at}
 
 -- what a pull among steps asks for past some items, the pulls of its session ask for
@@ -55,19 +56,19 @@ asks_there run sessions before later step s count input items long has pulls unm
 
 -- a step that came to a limit ends the run there
 pub steps_limited : (run : Run) (sessions : List SessionConfig) (steps : List Step)
-    (lefts : List (Option (List Event))) (fault : RunFault) → length sessions ≡ length run.inputs
-    → StepsStop run (opening sessions) steps lefts fault → StopsAtLimit run steps lefts fault
-steps_limited run sessions steps lefts (refusal.ReadFault n) long stop = tt
-steps_limited run sessions steps lefts refusal.WriteFault long stop = tt
-steps_limited run sessions steps lefts (refusal.ItemLimit n) long stop =
-    let stops : StepFills PullFillsItems run (place_after run.inputs stop.before (opening sessions)) stop.step n lefts =
-    stop.stops in
+    (slots : List Slot) (fault : RunFault) (old new : Option (List ℕ)) → length sessions ≡ length run.inputs
+    → StepsStop run (opening sessions) steps slots fault old new → StopsAtLimit run steps slots fault
+steps_limited run sessions steps slots (refusal.ReadFault n) old new long stop = tt
+steps_limited run sessions steps slots refusal.WriteFault old new long stop = tt
+steps_limited run sessions steps slots (refusal.ItemLimit n) old new long stop =
+    let stops : StepFills PullFillsItems run (place_after run.inputs stop.before (opening sessions)) stop.step n slots =
+    stop.stops.limit in
     let given = stops.given in
     let fills = given.fills in
     record {
       input = given.input;
       has = given.has;
-      left = given.left;
+      slot = given.slot;
       leaves = given.leaves;
       gave = given.gave;
       told = given.told;
@@ -80,15 +81,15 @@ steps_limited run sessions steps lefts (refusal.ItemLimit n) long stop =
             given.has stops.pulls fills.unmet fills.asks);
       };
     }
-steps_limited run sessions steps lefts (refusal.OctetLimit n) long stop =
-    let stops : StepFills PullFillsOctets run (place_after run.inputs stop.before (opening sessions)) stop.step n lefts
-    = stop.stops in
+steps_limited run sessions steps slots (refusal.OctetLimit n) old new long stop =
+    let stops : StepFills PullFillsOctets run (place_after run.inputs stop.before (opening sessions)) stop.step n slots
+    = stop.stops.limit in
     let given = stops.given in
     let fills = given.fills in
     record {
       input = given.input;
       has = given.has;
-      left = given.left;
+      slot = given.slot;
       leaves = given.leaves;
       gave = given.gave;
       told = given.told;
@@ -102,7 +103,7 @@ steps_limited run sessions steps lefts (refusal.OctetLimit n) long stop =
             (length fills.items) long given.has stops.pulls fills.unmet fills.asks);
       };
     }
-steps_limited run sessions steps lefts refusal.OutOfMemory long stop = tt
+steps_limited run sessions steps slots refusal.OutOfMemory old new long stop = tt
 
 -- the items of the events so far are no more than all
 within_all : (config : SessionConfig) (input : Input) (gave rest : List Event) (items : List Item)
@@ -132,10 +133,10 @@ taken_within items peer course stands are =
 
 -- a session that stands where its pulls bring it reached no limit that they ask past
 fills_none : (config : SessionConfig) (input : Input) (at : Reached) (course : Course) (peer : PeerState)
-    (left : Option (List Event)) (counts : List (Option ℕ)) → IsInput config input
-    → IsSessionAt input at course peer left → StandsFor course.events course.effects peer
+    (slot : Slot) (counts : List (Option ℕ)) → IsInput config input
+    → IsSessionAt input at course peer slot → StandsFor course.events course.effects peer
     → at ≡ reached_after (total input) counts not_begun → FillsNone counts course.events
-fills_none config input at course peer left counts is here stands reached =
+fills_none config input at course peer slot counts is here stands reached =
     (no_items at.ended refl, no_octets at.ended refl)
   where
     unmet : at.ended ≡ false → (reached_after (total input) counts not_begun).ended ≡ false
@@ -173,14 +174,14 @@ fills_none config input at course peer left counts is here stands reached =
 
 -- a run that came to the end of its steps reached no limit that they ask past
 pub none_filled : (run : Run) (steps : List Step) (control : ControlState) (rounds : ℕ)
-    (lefts : List (Option (List Event)))
-    → IsAt run (place_after run.inputs steps (opening run.config.sessions)) control rounds lefts
-    → FillNone run steps lefts
-none_filled run steps control rounds lefts s session within =
+    (slots : List Slot)
+    → IsAt run (place_after run.inputs steps (opening run.config.sessions)) control rounds slots
+    → FillNone run steps slots
+none_filled run steps control rounds slots s session within =
     let place = place_after run.inputs steps (opening run.config.sessions) in
     let found = some_at run.inputs session within in
     let x =
-    session_at run.inputs place.sessions s.courses control.peers lefts session found.0 s.sessions found.1 in
+    session_at run.inputs place.sessions s.courses control.peers slots session found.0 s.sessions found.1 in
     let is = input_at run.config.sessions run.inputs session found.0 s.whole found.1 in
     let stands =
     stand_at s.courses control.peers session x.course x.peer s.stands.stand x.course_is x.peer_is in
@@ -192,12 +193,12 @@ none_filled run steps control rounds lefts s session within =
     record {
       input = found.0;
       has = found.1;
-      left = x.left;
-      leaves = x.left_is;
+      slot = x.slot;
+      leaves = x.slot_is;
       gave = x.course.events;
       told = subst (λ (l : Option (List Event)). Gave (Some found.0.course.events) x.course.events l)
           (sym x.here.left_is) x.here.same;
-      fills = fills_none is.0 found.0 x.at x.course x.peer x.left (asked_of session steps) is.1 x.here stands.1
+      fills = fills_none is.0 found.0 x.at x.course x.peer x.slot (asked_of session steps) is.1 x.here stands.1
           reached;
     }
 
@@ -208,28 +209,28 @@ given_told all gave None told = absurd told
 given_told all gave (Some rest) told = (rest, told)
 
 -- what the feed of a session gave fills no limit that pulls ask past, where a run stays below its limits
-below_given : (run : Run) (steps : List Step) (lefts : List (Option (List Event))) (s : ℕ)
-    (Fills : List Event → Type 0) → StaysBelow (events_of run) steps → (given : OfGiven run s lefts Fills)
+below_given : (run : Run) (steps : List Step) (slots : List Slot) (s : ℕ)
+    (Fills : List Event → Type 0) → StaysBelow (events_of run) steps → (given : OfGiven run s slots Fills)
     → FillsNone (asked_of s steps) given.gave
-below_given run steps lefts s Fills below given =
-    let rest = given_told given.input.course.events given.gave given.left given.told in
+below_given run steps slots s Fills below given =
+    let rest = given_told given.input.course.events given.gave (left_in given.slot) given.told in
     below s given.input.course.events
     (slice_get-map (λ (i : Input). i.course.events) run.inputs s
     ∙ ap (option_map (λ (i : Input). i.course.events)) given.has)
     given.gave rest.0 rest.1
 
 -- a run that stays below its limits stops at none
-pub below_done : (run : Run) (steps : List Step) (lefts : List (Option (List Event))) (fault : RunFault)
-    → StaysBelow (events_of run) steps → StopsAtLimit run steps lefts fault
+pub below_done : (run : Run) (steps : List Step) (slots : List Slot) (fault : RunFault)
+    → StaysBelow (events_of run) steps → StopsAtLimit run steps slots fault
     → ((n : ℕ) → fault ≡ refusal.ItemLimit n → ⊥) × ((n : ℕ) → fault ≡ refusal.OctetLimit n → ⊥)
-below_done run steps lefts (refusal.ReadFault s) below stops = (λ n is. cc, λ n is. cc)
-below_done run steps lefts refusal.WriteFault below stops = (λ n is. cc, λ n is. cc)
-below_done run steps lefts (refusal.ItemLimit s) below stops = (
-  λ n is. (below_given run steps lefts s (FillsItems (asked_of s steps)) below stops).0 stops.fills,
+below_done run steps slots (refusal.ReadFault s) below stops = (λ n is. cc, λ n is. cc)
+below_done run steps slots refusal.WriteFault below stops = (λ n is. cc, λ n is. cc)
+below_done run steps slots (refusal.ItemLimit s) below stops = (
+  λ n is. (below_given run steps slots s (FillsItems (asked_of s steps)) below stops).0 stops.fills,
   λ n is. cc,
 )
-below_done run steps lefts (refusal.OctetLimit s) below stops = (
+below_done run steps slots (refusal.OctetLimit s) below stops = (
   λ n is. cc,
-  λ n is. (below_given run steps lefts s (FillsOctets (asked_of s steps)) below stops).1 stops.fills,
+  λ n is. (below_given run steps slots s (FillsOctets (asked_of s steps)) below stops).1 stops.fills,
 )
-below_done run steps lefts refusal.OutOfMemory below stops = (λ n is. cc, λ n is. cc)
+below_done run steps slots refusal.OutOfMemory below stops = (λ n is. cc, λ n is. cc)

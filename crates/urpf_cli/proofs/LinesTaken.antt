@@ -5,7 +5,6 @@ use Rattle.std.specs.Prelude.{slice_get}
 use Rattle.std.specs.List.{AllByRecursion}
 use Rattle.std.proofs.lemmas.List.{append-nil, map-append, take-append-drop, take-map, take_all, take_more}
 use Rattle.std.proofs.lemmas.Option.{slice_get_within, unwrap_or-slice_get}
-use Rattle.feed_io.specs.Events.{Event}
 use Rattle.runbook.specs.declared.lines.BookLine.{BookLine}
 use Rattle.control_core.specs.States.{ControlState}
 use Rattle.control_core.specs.declared.limits.RunFault.{RunFault}
@@ -13,6 +12,7 @@ use Rattle.control_core.proofs.Places.{some_one}
 use Rattle.urpf_cli.specs.Inputs.{Run}
 use Rattle.urpf_cli.specs.Places.{Place, place_after}
 use Rattle.urpf_cli.specs.Runs.{RanSteps}
+use Rattle.urpf_cli.specs.Slots.{Slot}
 use Rattle.urpf_cli.specs.Steps.{Step, lines_in, steps_in, steps_of}
 use Rattle.urpf_cli.proofs.Composing.{steps_of-append, steps_stop, then_steps}
 
@@ -56,43 +56,43 @@ steps_parted sessions rows k row is =
 
 -- one line more was taken
 pub lines_next : (run : Run) (place : Place) (sessions : ℕ) (rows : List (ℕ × BookLine)) (k : ℕ) (row : ℕ × BookLine)
-    (mid_control control : ControlState) (mid_rounds rounds : ℕ) (mid_lefts lefts : List (Option (List Event)))
+    (mid_control control : ControlState) (mid_rounds rounds : ℕ) (mid_slots slots : List Slot)
     (old mid new : Option (List ℕ)) → slice_get rows k ≡ Some row
-    → RanSteps run place (steps_of sessions (take k (lines_in rows))) (Ok tt) mid_control mid_rounds mid_lefts old mid
+    → RanSteps run place (steps_of sessions (take k (lines_in rows))) (Ok tt) mid_control mid_rounds mid_slots old mid
     → RanSteps run (place_after run.inputs (steps_of sessions (take k (lines_in rows))) place)
-    (steps_in sessions row.1) (Ok tt) control rounds lefts mid new
-    → RanSteps run place (steps_of sessions (take (k + 1) (lines_in rows))) (Ok tt) control rounds lefts old new
-lines_next run place sessions rows k row mid_control control mid_rounds rounds mid_lefts lefts old mid new is first
+    (steps_in sessions row.1) (Ok tt) control rounds slots mid new
+    → RanSteps run place (steps_of sessions (take (k + 1) (lines_in rows))) (Ok tt) control rounds slots old new
+lines_next run place sessions rows k row mid_control control mid_rounds rounds mid_slots slots old mid new is first
     next =
-    subst (λ (ss : List Step). RanSteps run place ss (Ok tt) control rounds lefts old new)
+    subst (λ (ss : List Step). RanSteps run place ss (Ok tt) control rounds slots old new)
     (sym (steps_more sessions rows k row is))
     (then_steps run place (steps_of sessions (take k (lines_in rows))) (steps_in sessions row.1) (Ok tt) mid_control
-    control mid_rounds rounds mid_lefts lefts old mid new first next)
+    control mid_rounds rounds mid_slots slots old mid new first next)
 
 -- a line that stopped, and those behind it
 pub lines_stop : (run : Run) (place : Place) (sessions : ℕ) (rows : List (ℕ × BookLine)) (k : ℕ) (row : ℕ × BookLine)
     (fault : RunFault) (mid_control control : ControlState) (mid_rounds rounds : ℕ)
-    (mid_lefts lefts : List (Option (List Event))) (old mid new : Option (List ℕ)) → slice_get rows k ≡ Some row
-    → RanSteps run place (steps_of sessions (take k (lines_in rows))) (Ok tt) mid_control mid_rounds mid_lefts old mid
+    (mid_slots slots : List Slot) (old mid new : Option (List ℕ)) → slice_get rows k ≡ Some row
+    → RanSteps run place (steps_of sessions (take k (lines_in rows))) (Ok tt) mid_control mid_rounds mid_slots old mid
     → RanSteps run (place_after run.inputs (steps_of sessions (take k (lines_in rows))) place)
-    (steps_in sessions row.1) (Err fault) control rounds lefts mid new
-    → RanSteps run place (steps_of sessions (lines_in rows)) (Err fault) control rounds lefts old new
-lines_stop run place sessions rows k row fault mid_control control mid_rounds rounds mid_lefts lefts old mid new is
+    (steps_in sessions row.1) (Err fault) control rounds slots mid new
+    → RanSteps run place (steps_of sessions (lines_in rows)) (Err fault) control rounds slots old new
+lines_stop run place sessions rows k row fault mid_control control mid_rounds rounds mid_slots slots old mid new is
     first next =
     let before : List Step = steps_of sessions (take k (lines_in rows)) in
-    subst (λ (ss : List Step). RanSteps run place ss (Err fault) control rounds lefts old new)
+    subst (λ (ss : List Step). RanSteps run place ss (Err fault) control rounds slots old new)
     (sym (steps_parted sessions rows k row is))
     (steps_stop run place (before ++ steps_in sessions row.1) (steps_of sessions (drop (k + 1) (lines_in rows))) fault
-    control rounds lefts old new
-    (then_steps run place before (steps_in sessions row.1) (Err fault) mid_control control mid_rounds rounds mid_lefts
-    lefts old mid new first next))
+    control rounds slots old new
+    (then_steps run place before (steps_in sessions row.1) (Err fault) mid_control control mid_rounds rounds mid_slots
+    slots old mid new first next))
 
 -- all lines were taken
 pub lines_all : (run : Run) (place : Place) (sessions : ℕ) (rows : List (ℕ × BookLine)) (k : ℕ)
-    (control : ControlState) (rounds : ℕ) (lefts : List (Option (List Event))) (old new : Option (List ℕ))
+    (control : ControlState) (rounds : ℕ) (slots : List Slot) (old new : Option (List ℕ))
     → length (lines_in rows) ≤ k
-    → RanSteps run place (steps_of sessions (take k (lines_in rows))) (Ok tt) control rounds lefts old new
-    → RanSteps run place (steps_of sessions (lines_in rows)) (Ok tt) control rounds lefts old new
-lines_all run place sessions rows k control rounds lefts old new long ran =
-    subst (λ (ls : List BookLine). RanSteps run place (steps_of sessions ls) (Ok tt) control rounds lefts old new)
+    → RanSteps run place (steps_of sessions (take k (lines_in rows))) (Ok tt) control rounds slots old new
+    → RanSteps run place (steps_of sessions (lines_in rows)) (Ok tt) control rounds slots old new
+lines_all run place sessions rows k control rounds slots old new long ran =
+    subst (λ (ls : List BookLine). RanSteps run place (steps_of sessions ls) (Ok tt) control rounds slots old new)
     (take_all k (lines_in rows) long) ran

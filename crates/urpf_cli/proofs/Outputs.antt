@@ -16,7 +16,7 @@ use Rattle.control_core.proofs.RunLaws.{one_run}
 use Rattle.control_core.proofs.SomeRun.{some_run}
 use Rattle.urpf_cli.specs.Inputs.{Input, IsInput, Run}
 use Rattle.urpf_cli.specs.Openings.{Texts}
-use Rattle.urpf_cli.specs.Outputs.{IsOutput, Reads}
+use Rattle.urpf_cli.specs.Outputs.{HaveSameItems, IsOutput, Reads}
 use Rattle.urpf_cli.specs.PairTables.{HasTable}
 use Rattle.urpf_cli.specs.RunText.{IsRunText}
 use Rattle.urpf_cli.specs.Steps.{lines_in}
@@ -79,51 +79,65 @@ some_output from texts settings rows table events configures lists has same =
       },
     )
 
--- inputs over events that differ in nothing but cuts are alike
+-- events that differ in nothing but cuts have the same items and the same rest
+pub same_by_cuts : (events others : List Event) → SameButCuts events others → HaveSameItems events others
+same_by_cuts events others cuts =
+    let items = items_after None events in
+    let are = are_items None events in
+    let (rest, left) = some_rest (connection_at_end None events) in (
+      items,
+      rest,
+      are,
+      items_by_cuts events others items cuts are,
+      left,
+      rest_by_cuts events others rest cuts left,
+    )
+
+-- inputs over events of the same items and the same rest are alike
 input_alike : (config : SessionConfig) (x y : Input) → IsInput config x → IsInput config y
-    → SameButCuts x.course.events y.course.events → AreAlike x y
-input_alike config x y p q cuts =
+    → HaveSameItems x.course.events y.course.events → AreAlike x y
+input_alike config x y p q same =
     let items : p.items ≡ q.items =
-    only_items None y.course.events p.items (items_by_cuts x.course.events y.course.events p.items cuts p.are)
-    ∙ sym (only_items None y.course.events q.items q.are) in
+    only_items None x.course.events p.items p.are ∙ sym (only_items None x.course.events same.0 same.2)
+    ∙ only_items None y.course.events same.0 same.3 ∙ sym (only_items None y.course.events q.items q.are) in
     record {
       config = p.configured ∙ sym q.configured;
       effects = (one_run config q.items x.course.effects y.course.effects p.last q.last
           (subst (λ (is : List Item). Runs config is x.course.effects p.last) items p.runs) q.runs).0;
-      rest = left_once (connection_at_end None y.course.events) x.rest y.rest
-          (rest_by_cuts x.course.events y.course.events x.rest cuts p.left) q.left;
+      rest = left_once (connection_at_end None x.course.events) x.rest same.1 p.left same.4
+          ∙ left_once (connection_at_end None y.course.events) same.1 y.rest same.5 q.left;
     }
 
 inputs_alike : (configs : List SessionConfig) (xs ys : List Input) → AllZip IsInput configs xs
     → AllZip IsInput configs ys
-    → AllZip SameButCuts (map (λ (i : Input). i.course.events) xs) (map (λ (i : Input). i.course.events) ys)
+    → AllZip HaveSameItems (map (λ (i : Input). i.course.events) xs) (map (λ (i : Input). i.course.events) ys)
     → AllZip AreAlike xs ys
-inputs_alike [] [] [] p q cuts = tt
-inputs_alike [] [] (y ∷ ys) p q cuts = absurd q
-inputs_alike [] (x ∷ xs) ys p q cuts = absurd p
-inputs_alike (config ∷ configs) [] ys p q cuts = absurd p
-inputs_alike (config ∷ configs) (x ∷ xs) [] p q cuts = absurd q
-inputs_alike (config ∷ configs) (x ∷ xs) (y ∷ ys) p q cuts =
-    (input_alike config x y p.0 q.0 cuts.0, inputs_alike configs xs ys p.1 q.1 cuts.1)
+inputs_alike [] [] [] p q same = tt
+inputs_alike [] [] (y ∷ ys) p q same = absurd q
+inputs_alike [] (x ∷ xs) ys p q same = absurd p
+inputs_alike (config ∷ configs) [] ys p q same = absurd p
+inputs_alike (config ∷ configs) (x ∷ xs) [] p q same = absurd q
+inputs_alike (config ∷ configs) (x ∷ xs) (y ∷ ys) p q same =
+    (input_alike config x y p.0 q.0 same.0, inputs_alike configs xs ys p.1 q.1 same.1)
 
--- runs of one configuration and one table over events that differ in nothing but cuts are alike
+-- runs of one configuration and one table over events of the same items and the same rests are alike
 runs_alike : (run other : Run) (settings : Settings) (table : Option Table) (events others : List (List Event))
-    → AllZip SameButCuts events others → Reads run settings table events → Reads other settings table others
+    → AllZip HaveSameItems events others → Reads run settings table events → Reads other settings table others
     → RunsAlike run other
-runs_alike run other settings table events others cuts one two =
+runs_alike run other settings table events others same one two =
     let config : run.config ≡ other.config = one.configured ∙ sym two.configured in
     record {
       config = config;
       table = one.tabled ∙ sym two.tabled;
       inputs = inputs_alike other.config.sessions run.inputs other.inputs
           (subst (λ (c : Settings). AllZip IsInput c.sessions run.inputs) config one.is) two.is
-          (rw (one.told, two.told) cuts);
+          (rw (one.told, two.told) same);
     }
 
 pub one_output : (from : PairsFrom) (texts : Texts) (events others : List (List Event)) (output other : List ℕ)
-    → AllZip SameButCuts events others → IsOutput from texts events output → IsOutput from texts others other
+    → AllZip HaveSameItems events others → IsOutput from texts events output → IsOutput from texts others other
     → output ≡ other
-one_output from texts events others output other cuts a b =
+one_output from texts events others output other same a b =
     let settings : a.settings ≡ b.settings = one_config texts.config a.settings b.settings a.configures b.configures in
     let rows : a.rows ≡ b.rows =
     one_book b.settings texts.book a.rows b.rows (subst (λ (c : Settings). IsBook c texts.book a.rows) settings a.lists)
@@ -132,6 +146,6 @@ one_output from texts events others output other cuts a b =
     let reads : Reads a.run b.settings b.table events =
     subst (λ (t : Option Table). Reads a.run b.settings t events) table
     (subst (λ (c : Settings). Reads a.run c a.table events) settings a.reads) in
-    let alike = runs_alike a.run b.run b.settings b.table events others cuts reads b.reads in
+    let alike = runs_alike a.run b.run b.settings b.table events others same reads b.reads in
     one_text a.run b.run alike (lines_in b.rows) output other
     (subst (λ (rs : List (ℕ × BookLine)). IsRunText a.run (lines_in rs) output) rows a.is) b.is

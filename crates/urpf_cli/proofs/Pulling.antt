@@ -2,7 +2,7 @@
 use Rattle.std.proofs.Common.{◌≡◌, ◌⊎◌, ℕ, ◌+◌, ◌-◌, ◌<◌, ◌≤◌, Bool, true, false, List, [], ◌++◌, length, take, drop}
 use Rattle.std.proofs.Common.{Option, Some, None, Result, Ok, Err, refl, sym, ap, subst, ◌∙◌, append_assoc, arith, inl}
 use Rattle.std.proofs.Common.{inr, length-append}
-use Rattle.std.specs.Prelude.{not, ◌&&◌}
+use Rattle.std.specs.Prelude.{not, ◌&&◌, ◌↔◌}
 use Rattle.std.specs.Io.KnownBytes.{Appends}
 use Rattle.std.proofs.lemmas.List.{append-nil, take_at}
 use Rattle.std.proofs.Math.Seq.{drop-append_seam, take-append-add}
@@ -27,14 +27,15 @@ use Rattle.urpf_cli.specs.Inputs.{Input, IsInput, total}
 use Rattle.urpf_cli.specs.Places.{Reached, pulled}
 use Rattle.urpf_cli.specs.RunText.{end_text, pull_text, resets}
 use Rattle.urpf_cli.specs.Runs.{IsSessionAt, TookAll, TookFront, run_limits}
+use Rattle.urpf_cli.specs.Slots.{Slot, left_in}
 use Rattle.urpf_cli.proofs.Knowing.{Known, known, known_all, left_after, all_parts, octets_parted, rest_of_all, within}
 use Rattle.urpf_cli.proofs.Leading.{at_most, leads, most_taken, told_end}
 
 -- a session before a pull: it stands where the run is, and for its course
 pub record Before (config : SessionConfig) (session : ℕ) (input : Input) (at : Reached) (course : Course)
-    (peer : PeerState) (left : Option (List Event)) : Type 0 where
+    (peer : PeerState) (slot : Slot) : Type 0 where
   pub is : IsInput config input
-  pub here : IsSessionAt input at course peer left
+  pub here : IsSessionAt input at course peer slot
   pub stands : StandsFor course.events course.effects peer
   pub configured : peer.session.config ≡ config
   pub number : peer.number ≡ session
@@ -77,13 +78,13 @@ emptied_is None new rest later is now empty = let clash : None ≡ Some rest = i
 emptied_is (Some events) new rest later is now empty = let both : Some later ≡ Some [] = sym now ∙ empty in cc
 
 pub further : (config : SessionConfig) (session : ℕ) (input : Input) (at : Reached) (course : Course)
-    (peer new : PeerState) (old_left new_left : Option (List Event)) (old_held new_held : Option (List ℕ))
-    (result : Result (Unit {0}) RunFault) → (b : Before config session input at course peer old_left)
-    → (p : Pulled course.events course.effects old_left new_left old_held new_held result peer new)
+    (peer new : PeerState) (slot : Slot) (new_left : Option (List Event)) (old_held new_held : Option (List ℕ))
+    (result : Result (Unit {0}) RunFault) → (b : Before config session input at course peer slot)
+    → (p : Pulled course.events course.effects (left_in slot) new_left old_held new_held result peer new)
     → new.session.config ≡ peer.session.config
     → Further session input at course p.gave p.more peer new new_left
     (IsPullText peer.number (course.events ++ p.gave) course.effects p.more (met_end peer new))
-further config session input at course peer new old_left new_left old_held new_held result b p same_config =
+further config session input at course peer new slot new_left old_held new_held result b p same_config =
     let s = b.here in
     let left =
     left_after s.rest p.gave new_left (subst (λ (l : Option (List Event)). Gave l p.gave new_left) s.left_is p.told)
@@ -94,7 +95,7 @@ further config session input at course peer new old_left new_left old_held new_h
     all_parts input.course.events course.events s.rest p.gave left.0 s.same left.2 in
     let now = known config input gave left.0 effects new b.is same p.stands (same_config ∙ b.configured) in
     let empty : met_end peer new ≡ true
-    → left.0 ≡ [] = λ met. emptied_is old_left new_left s.rest left.0 s.left_is left.1 (p.emptied met).0 in
+    → left.0 ≡ [] = λ met. emptied_is (left_in slot) new_left s.rest left.0 s.left_is left.1 (p.emptied met).0 in
     let full : met_end peer new ≡ true
     → SameButCuts input.course.events (gave ++ []) × (length effects ≡ total input) = λ met.
     let whole : SameButCuts input.course.events (gave ++ []) =
@@ -146,24 +147,25 @@ met_below input at count limits old new gave rest effects ended few octets own s
 
 -- where a pull that ended well leads, and what it wrote
 pub record PulledWell (session : ℕ) (input : Input) (at : Reached) (count : Option ℕ) (course : Course)
-    (new : PeerState) (left : Option (List Event)) (old_held new_held : Option (List ℕ)) : Type 0 where
+    (new : PeerState) (slot : Slot) (old_held new_held : Option (List ℕ)) : Type 0 where
   pub gave : List Event
   pub more : List Effect
   pub stands : StandsFor (course.events ++ gave) (course.effects ++ more) new
-  pub here : IsSessionAt input (pulled (total input) count at) (goes_on course gave more) new left
+  pub here : IsSessionAt input (pulled (total input) count at) (goes_on course gave more) new slot
   pub took : TookAll (λ text. text ≡ pull_text session input at (pulled (total input) count at)) old_held new_held
 
 pub pulls_well : (config : SessionConfig) (session : ℕ) (input : Input) (at : Reached) (count : Option ℕ)
-    (course : Course) (limits : Limits) (peer new : PeerState) (old_left new_left : Option (List Event))
+    (course : Course) (limits : Limits) (peer new : PeerState) (slot next_slot : Slot)
     (old_held new_held : Option (List ℕ)) → limits ≡ run_limits
-    → Before config session input at course peer old_left
-    → Pull count limits old_left new_left old_held new_held (Ok tt) peer new
-    → PulledWell session input at count course new new_left old_held new_held
-pulls_well config session input at count course limits peer new old_left new_left old_held new_held largest b pull =
+    → Before config session input at course peer slot
+    → Pull count limits (left_in slot) (left_in next_slot) old_held new_held (Ok tt) peer new
+    → next_slot ≡ None ↔ new.ended ≡ true
+    → PulledWell session input at count course new next_slot old_held new_held
+pulls_well config session input at count course limits peer new slot next_slot old_held new_held largest b pull gone =
     let s = b.here in
     let p = pull.pulled course.events course.effects b.stands tt in
     let f =
-    further config session input at course peer new old_left new_left old_held new_held (Ok tt) b p pull.config in
+    further config session input at course peer new slot (left_in next_slot) old_held new_held (Ok tt) b p pull.config in
     let effects : List Effect = course.effects ++ p.more in
     let items : new.session.items ≡ length effects = p.stands.counted in
     let taken : at.taken ≡ peer.session.items = s.taken ∙ sym b.stands.counted in
@@ -177,7 +179,7 @@ pulls_well config session input at count course limits peer new old_left new_lef
     let below : next.ended ≡ true → (total input < ITEM_LIMIT) × (octet_count input.course.events < OCTET_LIMIT) =
     λ is. met_below input at count limits peer new (course.events ++ p.gave) f.rest effects s.ended s.few_items
     s.few_octets largest p.stands f.same f.met
-    (λ met. emptied_is old_left new_left s.rest f.rest s.left_is f.left_is (p.emptied met).0) pull.ends
+    (λ met. emptied_is (left_in slot) (left_in next_slot) s.rest f.rest s.left_is f.left_is (p.emptied met).0) pull.ends
     (sym lead.ended_is ∙ is) in
     let limit : limits.items ≡ ITEM_LIMIT = ap (λ (l : Limits). l.items) largest in
     let stayed : new.session.items
@@ -191,6 +193,7 @@ pulls_well config session input at count course limits peer new old_left new_lef
       here = record {
         rest = f.rest;
         left_is = f.left_is;
+        emptied = (λ is. lead.ended_is ∙ gone.0 is, λ is. gone.1 (sym lead.ended_is ∙ is));
         same = f.same;
         taken = next_taken;
         ended = sym lead.ended_is;
@@ -293,17 +296,17 @@ end_or_none session input at next upto false all = inl refl
 
 -- a pull that stopped
 pull_stopped : (config : SessionConfig) (session : ℕ) (input : Input) (at : Reached) (count : Option ℕ)
-    (course : Course) (limits : Limits) (peer new : PeerState) (old_left new_left : Option (List Event))
+    (course : Course) (limits : Limits) (peer new : PeerState) (slot : Slot) (new_left : Option (List Event))
     (old_held new_held : Option (List ℕ)) (fault : RunFault)
-    → Before config session input at course peer old_left
-    → Pull count limits old_left new_left old_held new_held (Err fault) peer new
+    → Before config session input at course peer slot
+    → Pull count limits (left_in slot) new_left old_held new_held (Err fault) peer new
     → HadMemory {T = Unit {0}} (Err fault)
     → TookFront (λ text. text ≡ pull_text session input at (pulled (total input) count at)) old_held new_held
-pull_stopped config session input at count course limits peer new old_left new_left old_held new_held fault b pull had =
+pull_stopped config session input at count course limits peer new slot new_left old_held new_held fault b pull had =
     let s = b.here in
     let p = pull.pulled course.events course.effects b.stands had in
     let f =
-    further config session input at course peer new old_left new_left old_held new_held (Err fault) b p pull.config in
+    further config session input at course peer new slot new_left old_held new_held (Err fault) b p pull.config in
     let next : Reached = pulled (total input) count at in
     let met : Bool = met_end peer new in
     let effects : List Effect = course.effects ++ p.more in
@@ -317,18 +320,18 @@ pull_stopped config session input at count course limits peer new old_left new_l
     front_of_pull session input at next course.effects p.more (end_text met session input) wrote.front wrote.more
     old_held new_held s.taken f.fits (omega (arith, most, p.stands.counted))
     (end_or_none session input at next (length effects) met
-    (λ is. told_end (total input) count at limits peer new fault (length effects) taken s.ended had pull.ends
+    (λ is. told_end (total input) count at limits peer new fault (length effects) taken s.ended pull.ends
     p.stands.counted (at_most count peer new pull.most).0 (f.met is) is))
     (sym (f.text (wrote.front ++ wrote.more) wrote.is)) wrote.appended
 
 -- a pull that memory ran out for
 pull_starved : (config : SessionConfig) (session : ℕ) (input : Input) (at : Reached) (count : Option ℕ)
-    (course : Course) (limits : Limits) (peer new : PeerState) (old_left new_left : Option (List Event))
+    (course : Course) (limits : Limits) (peer new : PeerState) (slot : Slot) (new_left : Option (List Event))
     (old_held new_held : Option (List ℕ))
-    → Before config session input at course peer old_left
-    → Pull count limits old_left new_left old_held new_held (Err refusal.OutOfMemory) peer new
+    → Before config session input at course peer slot
+    → Pull count limits (left_in slot) new_left old_held new_held (Err refusal.OutOfMemory) peer new
     → TookFront (λ text. text ≡ pull_text session input at (pulled (total input) count at)) old_held new_held
-pull_starved config session input at count course limits peer new old_left new_left old_held new_held b pull =
+pull_starved config session input at count course limits peer new slot new_left old_held new_held b pull =
     let s = b.here in
     let stop = pull.stopped course.events course.effects b.stands refl in
     let left =
@@ -355,27 +358,27 @@ pull_starved config session input at count course limits peer new old_left new_l
 
 -- the front that a pull wrote before it stopped, by whether memory ran out
 pub pull_front : (config : SessionConfig) (session : ℕ) (input : Input) (at : Reached) (count : Option ℕ)
-    (course : Course) (limits : Limits) (peer new : PeerState) (old_left new_left : Option (List Event))
+    (course : Course) (limits : Limits) (peer new : PeerState) (slot : Slot) (new_left : Option (List Event))
     (old_held new_held : Option (List ℕ)) (fault : RunFault)
-    → Before config session input at course peer old_left
-    → Pull count limits old_left new_left old_held new_held (Err fault) peer new
+    → Before config session input at course peer slot
+    → Pull count limits (left_in slot) new_left old_held new_held (Err fault) peer new
     → TookFront (λ text. text ≡ pull_text session input at (pulled (total input) count at)) old_held new_held
-pull_front config session input at count course limits peer new old_left new_left old_held new_held
+pull_front config session input at count course limits peer new slot new_left old_held new_held
     (refusal.ReadFault n) b pull =
-    pull_stopped config session input at count course limits peer new old_left new_left old_held new_held
+    pull_stopped config session input at count course limits peer new slot new_left old_held new_held
     (refusal.ReadFault n) b pull tt
-pull_front config session input at count course limits peer new old_left new_left old_held new_held
+pull_front config session input at count course limits peer new slot new_left old_held new_held
     refusal.WriteFault b pull =
-    pull_stopped config session input at count course limits peer new old_left new_left old_held new_held
+    pull_stopped config session input at count course limits peer new slot new_left old_held new_held
     refusal.WriteFault b pull tt
-pull_front config session input at count course limits peer new old_left new_left old_held new_held
+pull_front config session input at count course limits peer new slot new_left old_held new_held
     (refusal.ItemLimit n) b pull =
-    pull_stopped config session input at count course limits peer new old_left new_left old_held new_held
+    pull_stopped config session input at count course limits peer new slot new_left old_held new_held
     (refusal.ItemLimit n) b pull tt
-pull_front config session input at count course limits peer new old_left new_left old_held new_held
+pull_front config session input at count course limits peer new slot new_left old_held new_held
     (refusal.OctetLimit n) b pull =
-    pull_stopped config session input at count course limits peer new old_left new_left old_held new_held
+    pull_stopped config session input at count course limits peer new slot new_left old_held new_held
     (refusal.OctetLimit n) b pull tt
-pull_front config session input at count course limits peer new old_left new_left old_held new_held
+pull_front config session input at count course limits peer new slot new_left old_held new_held
     refusal.OutOfMemory b pull =
-    pull_starved config session input at count course limits peer new old_left new_left old_held new_held b pull
+    pull_starved config session input at count course limits peer new slot new_left old_held new_held b pull

@@ -1,25 +1,25 @@
 -- A run at its opening.
-use Rattle.std.proofs.Common.{◌≡◌, ℕ, ◌≤◌, false, true, List, [], ◌∷◌, length, map, take, Option, Some, refl}
+use Rattle.std.proofs.Common.{◌≡◌, ℕ, ◌≤◌, false, true, List, [], ◌∷◌, length, map, take, refl}
 use Rattle.std.proofs.Common.{sym, ap, subst, ◌∙◌, arith}
 use Rattle.std.specs.List.{AllByRecursion, AllZip}
 use Rattle.urpf_base.specs.declared.kinds.Kind.{Kind}
 use Rattle.urpf_base.specs.declared.sessions.SessionConfig.{SessionConfig}
-use Rattle.feed_io.specs.Events.{Event}
 use Rattle.router_config.specs.Configured.{IsConfigured}
 use Rattle.control_core.specs.Controls.{AllStand, IsOpened}
 use Rattle.control_core.specs.Controls as controls
 use Rattle.control_core.specs.States.{ControlState, PeerState}
 use Rattle.control_core.specs.Worlds.{Opening, kinds_after, last_number}
-use Rattle.urpf_cli.specs.Inputs.{Input, IsInput, IsRun, Run, opening_of, told_by}
+use Rattle.urpf_cli.specs.Inputs.{Input, IsInput, IsRun, Run, opening_of}
 use Rattle.urpf_cli.specs.Places.{not_begun, opening}
 use Rattle.urpf_cli.specs.Runs.{AreSessionsAt, IsAt, Serves, run_limits}
+use Rattle.urpf_cli.specs.Slots.{Slot, filled, told_by}
 
 -- each session is at its beginning
 sessions_opened : (configs : List SessionConfig) (inputs : List Input) (peers : List PeerState)
     → AllZip IsInput configs inputs → AllStand (map controls.not_begun configs) peers
     → AllByRecursion (λ (p : PeerState). p.ended ≡ false) peers
     → AreSessionsAt inputs (map (λ (s : SessionConfig). not_begun) configs) (map controls.not_begun configs) peers
-    (map (λ (i : Input). Some i.course.events) inputs)
+    (map (λ (i : Input). filled i.course.events) inputs)
 sessions_opened [] [] [] is stand unmet = tt
 sessions_opened [] [] (p ∷ peers) is stand unmet = absurd stand
 sessions_opened [] (i ∷ inputs) peers is stand unmet = absurd is
@@ -29,6 +29,7 @@ sessions_opened (k ∷ configs) (i ∷ inputs) (p ∷ peers) is stand unmet = (
   record {
     rest = i.course.events;
     left_is = refl;
+    emptied = (λ is. cc, λ is. let clash : false ≡ true = is in cc);
     same = refl;
     taken = refl;
     ended = unmet.0;
@@ -41,14 +42,14 @@ sessions_opened (k ∷ configs) (i ∷ inputs) (p ∷ peers) is stand unmet = (
 )
 
 -- a run at its opening, where its control is new and its feeds tell all that they have
-pub opened_at : (run : Run) (control : ControlState) (lefts : List (Option (List Event))) → IsRun run
-    → IsOpened (opening_of run) run_limits control → lefts ≡ told_by run
-    → IsAt run (opening run.config.sessions) control 0 lefts
-opened_at run control lefts is opened told = record {
+pub opened_at : (run : Run) (control : ControlState) (slots : List Slot) → IsRun run
+    → IsOpened (opening_of run) run_limits control → slots ≡ told_by run
+    → IsAt run (opening run.config.sessions) control 0 slots
+opened_at run control slots is opened told = record {
   whole = is;
   courses = map controls.not_begun run.config.sessions;
   stands = opened.stands;
-  sessions = subst (λ (ls : List (Option (List Event))). AreSessionsAt run.inputs
+  sessions = subst (λ (ls : List Slot). AreSessionsAt run.inputs
       (map (λ (s : SessionConfig). not_begun) run.config.sessions) (map controls.not_begun run.config.sessions)
       control.peers ls) (sym told)
       (sessions_opened run.config.sessions run.inputs control.peers is opened.stands.stand opened.unmet);

@@ -1,5 +1,5 @@
 -- What the steps of a run that are no pulls give, and where they lead.
-use Rattle.std.proofs.Common.{◌≡◌, ℕ, ◌+◌, false, List, [], ◌∷◌, ◌++◌, length, map, take, Option, refl, arith}
+use Rattle.std.proofs.Common.{◌≡◌, ℕ, ◌+◌, false, List, [], ◌∷◌, ◌++◌, length, map, take, refl, arith}
 use Rattle.std.proofs.Common.{sym, ap, subst, ◌∙◌}
 use Rattle.std.specs.List.{AllZip}
 use Rattle.std.proofs.lemmas.List.{take_all, take_at}
@@ -7,7 +7,6 @@ use Rattle.std.proofs.lemmas.List.Sums.{sum_by-cons}
 use Rattle.urpf_base.specs.declared.address.Addr.{Addr}
 use Rattle.urpf_base.specs.declared.verdicts.Verdict.{Verdict}
 use Rattle.adj_rib.specs.Routes.{prefixes_of}
-use Rattle.feed_io.specs.Events.{Event}
 use Rattle.report_text.specs.Lines.{check_line, publish_line, summary_line}
 use Rattle.urpf_base.specs.declared.kinds.Kind.{Kind}
 use Rattle.origin_pairs.specs.Pairs.{IsPairSet}
@@ -28,34 +27,35 @@ use Rattle.urpf_cli.specs.PairTables.{pairs_in}
 use Rattle.urpf_cli.specs.Places.{Place, Reached, mark_at, next_place}
 use Rattle.urpf_cli.specs.RunText.{CheckGives, IsWorldOf, LeaveRoutes, PublishGives, SummaryGives}
 use Rattle.urpf_cli.specs.Runs.{AreSessionsAt, IsAt, Serves}
+use Rattle.urpf_cli.specs.Slots.{Slot}
 use Rattle.urpf_cli.specs.Steps.{change, publish, round}
 use Rattle.urpf_cli.proofs.SessionsAt.{IsFront}
 use Rattle.urpf_cli.proofs.WorldsOf.{fronts_at, mark_reached, mark_same, number_at, one_last, world_whole}
 
 -- what a publication gives
 pub published_gives : (run : Run) (place : Place) (old new : ControlState) (rounds : ℕ)
-    (lefts : List (Option (List Event))) (answer : ℕ × ℕ) (text : List ℕ)
-    → (s : IsAt run place old rounds lefts) → Publishes old new answer
+    (slots : List Slot) (answer : ℕ × ℕ) (text : List ℕ)
+    → (s : IsAt run place old rounds slots) → Publishes old new answer
     → PublishesDifference (opening_of run) place.edits s.courses old new answer
     → text ≡ publish_line answer.0 old.edits answer.1 (items_of old.peers) → PublishGives run place text
-published_gives run place old new rounds lefts answer text s publishes d is =
+published_gives run place old new rounds slots answer text s publishes d is =
     let last : d.last ≡ place.mark = one_last old.marks d.earlier s.earlier d.last place.mark d.marks s.marks in
     let number : answer.0 ≡ place.mark.number + 1 =
-    publishes.number ∙ ap (λ (n : ℕ). n + 1) (number_at run place old rounds lefts s) in
+    publishes.number ∙ ap (λ (n : ℕ). n + 1) (number_at run place old rounds slots s) in
     let now : position_of old answer.0 ≡ mark_at place (place.mark.number + 1) =
-    mark_same run place old rounds lefts answer.0 s ∙ ap (mark_at place) number in
+    mark_same run place old rounds slots answer.0 s ∙ ap (mark_at place) number in
     record {
       old_kinds = old.published.kinds;
       old = d.before;
-      was = world_whole run place old rounds lefts place.mark old.published.kinds d.before s
-          (mark_reached run place old rounds lefts s)
+      was = world_whole run place old rounds slots place.mark old.published.kinds d.before s
+          (mark_reached run place old rounds slots s)
           (subst (λ (mark : Position). IsWorldAt (opening_of run) place.edits s.courses mark old.published.kinds
           d.before)
           last d.was);
       new_kinds = new.published.kinds;
       new = d.after;
       is = subst (λ (mark : Position). IsWorldOf run place mark new.published.kinds d.after) now
-          (world_whole run place old rounds lefts (position_of old answer.0) new.published.kinds d.after s
+          (world_whole run place old rounds slots (position_of old answer.0) new.published.kinds d.after s
           (at_most_self (items_of old.peers)) d.is);
       changes = d.changes;
       difference = d.difference;
@@ -68,23 +68,23 @@ published_gives run place old new rounds lefts answer text s publishes d is =
 
 -- and where it leads
 pub published_at : (run : Run) (place : Place) (old new : ControlState) (rounds : ℕ)
-    (lefts : List (Option (List Event))) (answer : ℕ × ℕ)
-    → (s : IsAt run place old rounds lefts) → Publishes old new answer
+    (slots : List Slot) (answer : ℕ × ℕ)
+    → (s : IsAt run place old rounds slots) → Publishes old new answer
     → ControlStandsFor (opening_of run) place.edits s.courses new → new.exhausted ≡ false
-    → IsAt run (next_place run.inputs publish place) new rounds lefts
-published_at run place old new rounds lefts answer s publishes stands able =
+    → IsAt run (next_place run.inputs publish place) new rounds slots
+published_at run place old new rounds slots answer s publishes stands able =
     let number : answer.0 ≡ place.mark.number + 1 =
-    publishes.number ∙ ap (λ (n : ℕ). n + 1) (number_at run place old rounds lefts s) in
+    publishes.number ∙ ap (λ (n : ℕ). n + 1) (number_at run place old rounds slots s) in
     record {
       whole = s.whole;
       courses = s.courses;
       stands = stands;
-      sessions = subst (λ (ps : List PeerState). AreSessionsAt run.inputs place.sessions s.courses ps lefts)
+      sessions = subst (λ (ps : List PeerState). AreSessionsAt run.inputs place.sessions s.courses ps slots)
           (sym publishes.peers) s.sessions;
       earlier = old.marks;
       marks = publishes.marks
           ∙ ap (λ (mark : Position). old.marks ++ mark ∷ [])
-          (mark_same run place old rounds lefts answer.0 s ∙ ap (mark_at place) number);
+          (mark_same run place old rounds slots answer.0 s ∙ ap (mark_at place) number);
       limits = publishes.limits ∙ s.limits;
       able = able;
       ended = s.ended;
@@ -92,61 +92,61 @@ published_at run place old new rounds lefts answer s publishes stands able =
 
 -- what a check gives
 pub check_gives : (run : Run) (place : Place) (control : ControlState) (rounds : ℕ)
-    (lefts : List (Option (List Event))) (iface : ℕ) (addr : Addr) (verdict : Verdict) (number : ℕ) (text : List ℕ)
-    → (s : IsAt run place control rounds lefts) → IsVerdictNow control s.stands.marked iface addr verdict
+    (slots : List Slot) (iface : ℕ) (addr : Addr) (verdict : Verdict) (number : ℕ) (text : List ℕ)
+    → (s : IsAt run place control rounds slots) → IsVerdictNow control s.stands.marked iface addr verdict
     → number ≡ last_number control.marks → text ≡ check_line iface addr verdict number
     → CheckGives run place iface addr text
-check_gives run place control rounds lefts iface addr verdict number text s judges is_number is =
+check_gives run place control rounds slots iface addr verdict number text s judges is_number is =
     let last : s.stands.last ≡ place.mark =
     one_last control.marks s.stands.earlier s.earlier s.stands.last place.mark s.stands.marks s.marks in
     record {
       kinds = control.published.kinds;
       world = s.stands.marked;
-      is = world_whole run place control rounds lefts place.mark control.published.kinds s.stands.marked s
-          (mark_reached run place control rounds lefts s)
+      is = world_whole run place control rounds slots place.mark control.published.kinds s.stands.marked s
+          (mark_reached run place control rounds slots s)
           (subst (λ (mark : Position). IsWorldAt (opening_of run) place.edits s.courses mark control.published.kinds
           s.stands.marked) last s.stands.is_marked);
       verdict = verdict;
       judges = judges;
       same = is
-          ∙ ap (λ (n : ℕ). check_line iface addr verdict n) (is_number ∙ number_at run place control rounds lefts s);
+          ∙ ap (λ (n : ℕ). check_line iface addr verdict n) (is_number ∙ number_at run place control rounds slots s);
     }
 
 -- the routes that the sessions have are those that their items leave
 leave_routes : (inputs : List Input) (sessions : List Reached) (courses : List Course) (peers : List PeerState)
-    (lefts : List (Option (List Event))) → AllZip IsFront courses inputs
-    → AreSessionsAt inputs sessions courses peers lefts → AllStand courses peers
+    (slots : List Slot) → AllZip IsFront courses inputs
+    → AreSessionsAt inputs sessions courses peers slots → AllStand courses peers
     → LeaveRoutes inputs sessions (route_count peers)
 leave_routes [] [] [] [] [] fronts are stand = refl
-leave_routes [] [] [] [] (l ∷ lefts) fronts are stand = absurd are
-leave_routes [] [] [] (p ∷ peers) lefts fronts are stand = absurd are
-leave_routes [] [] (c ∷ courses) peers lefts fronts are stand = absurd are
-leave_routes [] (a ∷ sessions) courses peers lefts fronts are stand = absurd are
-leave_routes (i ∷ inputs) [] courses peers lefts fronts are stand = absurd are
-leave_routes (i ∷ inputs) (a ∷ sessions) [] peers lefts fronts are stand = absurd are
-leave_routes (i ∷ inputs) (a ∷ sessions) (c ∷ courses) [] lefts fronts are stand = absurd are
+leave_routes [] [] [] [] (l ∷ slots) fronts are stand = absurd are
+leave_routes [] [] [] (p ∷ peers) slots fronts are stand = absurd are
+leave_routes [] [] (c ∷ courses) peers slots fronts are stand = absurd are
+leave_routes [] (a ∷ sessions) courses peers slots fronts are stand = absurd are
+leave_routes (i ∷ inputs) [] courses peers slots fronts are stand = absurd are
+leave_routes (i ∷ inputs) (a ∷ sessions) [] peers slots fronts are stand = absurd are
+leave_routes (i ∷ inputs) (a ∷ sessions) (c ∷ courses) [] slots fronts are stand = absurd are
 leave_routes (i ∷ inputs) (a ∷ sessions) (c ∷ courses) (p ∷ peers) [] fronts are stand = absurd are
-leave_routes (i ∷ inputs) (a ∷ sessions) (c ∷ courses) (p ∷ peers) (l ∷ lefts) fronts are stand =
+leave_routes (i ∷ inputs) (a ∷ sessions) (c ∷ courses) (p ∷ peers) (l ∷ slots) fronts are stand =
     let front : take a.taken i.course.effects ≡ c.effects =
     ap (take a.taken) fronts.0.front.parts ∙ take_at c.effects fronts.0.front.later a.taken (sym are.0.taken) in (
       length (prefixes_of p.routes),
       route_count peers,
       subst (λ (es : List Effect). HoldsSoMany es (length (prefixes_of p.routes))) (sym front)
           (holds_so_many c.effects p.routes stand.1.routes),
-      leave_routes inputs sessions courses peers lefts fronts.1 are.1 stand.2,
+      leave_routes inputs sessions courses peers slots fronts.1 are.1 stand.2,
       sum_by-cons (λ (n : ℕ). n) (length (prefixes_of p.routes))
           (map (λ (p : PeerState). length (prefixes_of p.routes)) peers),
     )
 
 -- what a summary gives
 pub summary_gives : (run : Run) (place : Place) (control : ControlState) (rounds : ℕ)
-    (lefts : List (Option (List Event))) (text : List ℕ) → IsAt run place control rounds lefts
+    (slots : List Slot) (text : List ℕ) → IsAt run place control rounds slots
     → text ≡ summary_line (route_count control.peers) (length control.engine.world.pairs)
     → SummaryGives run place text
-summary_gives run place control rounds lefts text s is = record {
+summary_gives run place control rounds slots text s is = record {
   count = route_count control.peers;
-  left = leave_routes run.inputs place.sessions s.courses control.peers lefts
-      (fronts_at run place control rounds lefts s) s.sessions s.stands.stand;
+  left = leave_routes run.inputs place.sessions s.courses control.peers slots
+      (fronts_at run place control rounds slots s) s.sessions s.stands.stand;
   pairs = control.engine.world.pairs;
   set = subst (λ (edits : List Edit). IsPairSet (pairs_after edits (pairs_in run.table)) control.engine.world.pairs)
       (ap (λ (n : ℕ). take n place.edits) s.stands.counted ∙ take_all (length place.edits) place.edits (omega arith))
@@ -156,14 +156,14 @@ summary_gives run place control rounds lefts text s is = record {
 
 -- where an edit leads
 pub changed_at : (run : Run) (place : Place) (edit : Edit) (old new : ControlState) (rounds : ℕ)
-    (lefts : List (Option (List Event))) → (s : IsAt run place old rounds lefts) → Edits edit old new
+    (slots : List Slot) → (s : IsAt run place old rounds slots) → Edits edit old new
     → ControlStandsFor (opening_of run) (place.edits ++ edit ∷ []) s.courses new → new.exhausted ≡ false
-    → IsAt run (next_place run.inputs (change edit) place) new rounds lefts
-changed_at run place edit old new rounds lefts s edits stands able = record {
+    → IsAt run (next_place run.inputs (change edit) place) new rounds slots
+changed_at run place edit old new rounds slots s edits stands able = record {
   whole = s.whole;
   courses = s.courses;
   stands = stands;
-  sessions = subst (λ (ps : List PeerState). AreSessionsAt run.inputs place.sessions s.courses ps lefts)
+  sessions = subst (λ (ps : List PeerState). AreSessionsAt run.inputs place.sessions s.courses ps slots)
       (sym edits.peers) s.sessions;
   earlier = s.earlier;
   marks = edits.published.marks ∙ s.marks;
@@ -174,9 +174,9 @@ changed_at run place edit old new rounds lefts s edits stands able = record {
 
 -- where the end of a round leads
 pub round_at : (run : Run) (place : Place) (control : ControlState) (rounds next : ℕ)
-    (lefts : List (Option (List Event))) → IsAt run place control rounds lefts → next ≡ rounds + 1
-    → IsAt run (next_place run.inputs round place) control next lefts
-round_at run place control rounds next lefts s is = record {
+    (slots : List Slot) → IsAt run place control rounds slots → next ≡ rounds + 1
+    → IsAt run (next_place run.inputs round place) control next slots
+round_at run place control rounds next slots s is = record {
   whole = s.whole;
   courses = s.courses;
   stands = s.stands;

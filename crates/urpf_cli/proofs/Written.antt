@@ -3,16 +3,18 @@ use Rattle.std.proofs.Common.{◌≡◌, ℕ, ◌≤◌, List, [], length, take,
 use Rattle.std.specs.Prelude.{OnOk, OnErr, IfErr}
 use Rattle.std.specs.Io.KnownBytes.{Appends}
 use Rattle.std.proofs.lemmas.List.{take-append-drop}
-use Rattle.feed_io.specs.Events.{Event}
 use Rattle.control_core.specs.States.{ControlState}
 use Rattle.control_core.specs.declared.limits.RunFault.{RunFault}
 use Rattle.control_core.specs.declared.limits.RunFault.TheVariants.{OutOfMemory, WriteFault}
 use Rattle.control_core.proofs.PullLaws.{appends_none}
 use Rattle.urpf_cli.specs.Inputs.{Run}
+use Rattle.urpf_cli.specs.Limits.{PullFillsItems, PullFillsOctets, StepFills}
 use Rattle.urpf_cli.specs.Places.{Place, next_place}
 use Rattle.urpf_cli.specs.RunText.{Gives}
-use Rattle.urpf_cli.specs.Runs.{IsAt, RanStep, StepStops, TookFront}
+use Rattle.urpf_cli.specs.Runs.{IsAt, RanStep, Reaches, StepKnows, TookFront}
+use Rattle.urpf_cli.specs.Slots.{AreEmptied, Slot}
 use Rattle.urpf_cli.specs.Steps.{Step}
+use Rattle.urpf_cli.proofs.Emptied.{emptied_at, emptied_between}
 use Rattle.urpf_cli.proofs.SomeText.{some_gives}
 
 -- a front of a text that was taken so far
@@ -32,21 +34,35 @@ front_none IsText text held is = record { front = []; more = text; is = is; appe
 
 -- a step whose line was offered
 pub step_ran : (run : Run) (place : Place) (step : Step) (text : List ℕ) (result : Result (Unit {0}) RunFault)
-    (control : ControlState) (rounds : ℕ) (lefts : List (Option (List Event))) (old new : Option (List ℕ))
-    → Gives run place step text → IsAt run (next_place run.inputs step place) control rounds lefts
+    (control : ControlState) (rounds : ℕ) (slots : List Slot) (old new : Option (List ℕ))
+    → Gives run place step text → AreEmptied place slots → IsAt run (next_place run.inputs step place) control rounds slots
     → OnOk result (Appends old new text) → OnErr result ((n : ℕ) × (n ≤ length text) × Appends old new (take n text))
     → IfErr result (λ fault. fault ≡ WriteFault)
-    → RanStep run place step result control rounds lefts old new
-step_ran run place step text (Ok done) control rounds lefts old new gives next ok cut err =
+    → RanStep run place step result control rounds slots old new
+step_ran run place step text (Ok done) control rounds slots old new gives now next ok cut err =
     (record { text = text; is = gives; appended = ok }, next)
-step_ran run place step text (Err fault) control rounds lefts old new gives next ok cut err = (
+step_ran run place step text (Err fault) control rounds slots old new gives now next ok cut err = (
   front_taken (Gives run place step) text cut.0 old new gives cut.2,
-  subst (λ (f : RunFault). StepStops run place step lefts f) (sym err) tt,
+  record {
+    limit = subst (λ (f : RunFault). Reaches (λ s. StepFills PullFillsItems run place step s slots)
+        (λ s. StepFills PullFillsOctets run place step s slots) f) (sym err) tt;
+    emptied = emptied_between place (next_place run.inputs step place) slots now
+        (emptied_at run (next_place run.inputs step place) control rounds slots next);
+    knows = subst (λ (f : RunFault). StepKnows run place step slots f old new) (sym err) tt;
+  },
 )
 
 -- a step that memory ran out for before anything was written
 pub step_starved : (run : Run) (place : Place) (step : Step) (control : ControlState) (rounds : ℕ)
-    (lefts : List (Option (List Event))) (held : Option (List ℕ))
-    → RanStep run place step (Err OutOfMemory) control rounds lefts held held
-step_starved run place step control rounds lefts held =
-    let some = some_gives run place step in (front_none (Gives run place step) some.0 held some.1, tt)
+    (slots : List Slot) (held : Option (List ℕ)) → AreEmptied place slots
+    → AreEmptied (next_place run.inputs step place) slots
+    → RanStep run place step (Err OutOfMemory) control rounds slots held held
+step_starved run place step control rounds slots held now next =
+    let some = some_gives run place step in (
+      front_none (Gives run place step) some.0 held some.1,
+      record {
+        limit = tt;
+        emptied = emptied_between place (next_place run.inputs step place) slots now next;
+        knows = tt;
+      },
+    )

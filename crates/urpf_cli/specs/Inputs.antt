@@ -1,6 +1,6 @@
 -- What a run reads: its configuration, its table of pairs and, of each session, all that its feed gives (RFC 4271,
 -- sections 3.2 and 8).
-use Rattle.std.specs.Prelude.{◌≡◌, ℕ, List, length, map, Option, Some}
+use Rattle.std.specs.Prelude.{◌≡◌, ℕ, List, length, map, Option}
 use Rattle.std.specs.List.{AllZip}
 use Rattle.urpf_base.specs.declared.sessions.SessionConfig.{SessionConfig}
 use Rattle.feed_io.specs.Events.{Event}
@@ -51,7 +51,3 @@ courses_of run = map (λ i. i.course) run.inputs
 -- the events of each session's feed
 abbrev pub events_of : Run → List (List Event)
 events_of run = map (λ i. i.course.events) run.inputs
-
--- what the feeds tell before any event is taken of them
-abbrev pub told_by : Run → List (Option (List Event))
-told_by run = map (λ i. Some i.course.events) run.inputs

@@ -9,8 +9,10 @@ pub mod Places
 pub mod RunText
 pub mod Runs
 pub mod Session
+pub mod Slots
 pub mod StatusText
 pub mod Statuses
 pub mod Steps
+pub mod Stops
 pub mod TextRefusals
 pub mod Words

@@ -8,6 +8,7 @@ use Rattle.control_core.specs.Items.{AreItems, Item, SameButCuts, octet_count}
 use Rattle.control_core.specs.Pulls.{asks_more}
 use Rattle.urpf_cli.specs.Inputs.{Input, Run}
 use Rattle.urpf_cli.specs.Places.{Place, Reached, reached_at}
+use Rattle.urpf_cli.specs.Slots.{Slot, left_in}
 use Rattle.urpf_cli.specs.Steps.{Step, pull, publish, round, check, change, summary}
 
 -- how many items each pull of this session asks for, where one may ask for all
@@ -48,14 +49,14 @@ abbrev pub FillsNone : List (Option ℕ) → List Event → Type 0
 FillsNone counts events = (FillsItems counts events → ⊥) × (FillsOctets counts events → ⊥)
 
 -- it is so of the events that the feed of this session gave
-pub record OfGiven (run : Run) (session : ℕ) (lefts : List (Option (List Event)))
+pub record OfGiven (run : Run) (session : ℕ) (slots : List Slot)
     (Fills : List Event → Type 0) : Type 0 where
   pub input : Input
   pub has : slice_get run.inputs session ≡ Some input
-  pub left : Option (List Event)
-  pub leaves : slice_get lefts session ≡ Some left
+  pub slot : Slot
+  pub leaves : slice_get slots session ≡ Some slot
   pub gave : List Event
-  pub told : Gave (Some input.course.events) gave left
+  pub told : Gave (Some input.course.events) gave (left_in slot)
   pub fills : Fills gave
 
 -- a pull where the session has come so far reaches the limit of items, and asks for more
@@ -79,10 +80,10 @@ pub record PullFillsOctets (at : Reached) (count : Option ℕ) (events : List Ev
 
 -- a step at a place is a pull of this session that reaches a limit with the events that its feed gave
 pub record StepFills (Fills : Reached → Option ℕ → List Event → Type 0) (run : Run) (place : Place) (step : Step)
-    (session : ℕ) (lefts : List (Option (List Event))) : Type 0 where
+    (session : ℕ) (slots : List Slot) : Type 0 where
   pub count : Option ℕ
   pub pulls : step ≡ pull session count
-  pub given : OfGiven run session lefts (Fills (reached_at place session) count)
+  pub given : OfGiven run session slots (Fills (reached_at place session) count)
 
 -- the pulls of each session ask past no limit, however many of its events its feed gives
 abbrev pub StaysBelow : List (List Event) → List Step → Type 0

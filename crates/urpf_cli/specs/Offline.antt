@@ -9,8 +9,9 @@ use Rattle.urpf_cli.specs.Inputs.{Run}
 use Rattle.urpf_cli.specs.Limits.{StaysBelow}
 use Rattle.urpf_cli.specs.Openings.{Opens, Texts}
 use Rattle.urpf_cli.specs.Outputs.{Reads}
-use Rattle.urpf_cli.specs.RunText.{IsRunText}
-use Rattle.urpf_cli.specs.Runs.{RanBook, TookFront}
+use Rattle.urpf_cli.specs.RunText.{IsRunText, steps_for}
+use Rattle.urpf_cli.specs.Runs.{EmptiesSome, RanBook, TookFront}
+use Rattle.urpf_cli.specs.Slots.{Slot}
 use Rattle.urpf_cli.specs.Steps.{lines_in, steps_of}
 
 -- the run of these words and texts over these events asks past no limit
@@ -23,7 +24,7 @@ pub record IsBelowLimits (words : List (List ℕ)) (texts : Texts) (events : Lis
 
 -- what the run of these words and texts over these events comes to
 pub record RanText (words : List (List ℕ)) (texts : Texts) (events : List (List Event))
-    (result : Result (Unit {0}) RunFault) (lefts : List (Option (List Event))) (old new : Option (List ℕ)) : Type 0
+    (result : Result (Unit {0}) RunFault) (slots : List Slot) (old new : Option (List ℕ)) : Type 0
   where
     pub settings : Settings
     pub rows : List (ℕ × BookLine)
@@ -31,11 +32,12 @@ pub record RanText (words : List (List ℕ)) (texts : Texts) (events : List (Lis
     pub opens : Opens words texts (length events) settings rows table
     pub run : Run
     pub reads : Reads run settings table events
-    pub ran : RanBook run (lines_in rows) result lefts old new
+    pub ran : RanBook run (lines_in rows) result slots old new
 
--- the sink took a front of the run of these words and texts over these events
+-- the sink took a front of the run of these words and texts over these events, and no feed went out of its slot but at
+-- its end
 pub record TookRunFront (words : List (List ℕ)) (texts : Texts) (events : List (List Event))
-    (old new : Option (List ℕ)) : Type 0 where
+    (slots : List Slot) (old new : Option (List ℕ)) : Type 0 where
   pub settings : Settings
   pub rows : List (ℕ × BookLine)
   pub table : Option Table
@@ -43,3 +45,4 @@ pub record TookRunFront (words : List (List ℕ)) (texts : Texts) (events : List
   pub run : Run
   pub reads : Reads run settings table events
   pub took : TookFront (IsRunText run (lines_in rows)) old new
+  pub emptied : EmptiesSome run (steps_for run (lines_in rows)) slots

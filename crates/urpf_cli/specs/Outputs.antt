@@ -2,6 +2,7 @@
 use Rattle.std.specs.Prelude.{◌≡◌, ℕ, List, Option}
 use Rattle.feed_io.specs.Events.{Event}
 use Rattle.roa_irr.specs.Tables.{Table}
+use Rattle.control_core.specs.Items.{AreItems, IsRest, Item}
 use Rattle.router_config.specs.Settings.{IsConfig, Settings}
 use Rattle.runbook.specs.declared.lines.BookLine.{BookLine}
 use Rattle.runbook.specs.Book.{IsBook}
@@ -11,6 +12,12 @@ use Rattle.urpf_cli.specs.PairTables.{HasTable}
 use Rattle.urpf_cli.specs.RunText.{IsRunText}
 use Rattle.urpf_cli.specs.Steps.{lines_in}
 use Rattle.urpf_cli.specs.Words.{PairsFrom}
+
+-- the events of a feed have the same items as those of another, and leave as many octets behind them
+abbrev pub HaveSameItems : List Event → List Event → Type 0
+HaveSameItems events others =
+    (items : List Item) × (rest : ℕ) × AreItems events items × AreItems others items × IsRest events rest
+    × IsRest others rest
 
 -- the run reads this configuration, this table of pairs and these events, of one feed a session
 pub record Reads (run : Run) (config : Settings) (table : Option Table) (events : List (List Event)) : Type 0 where

@@ -2,6 +2,8 @@
 use Rattle.std.specs.Prelude.{◌≡◌, ℕ, List, [], ◌∷◌, ◌++◌, codes, map, string_bytes}
 use Rattle.std.specs.List.{All}
 use Rattle.urpf_base.specs.declared.address.Addr.{Addr}
+use Rattle.feed_io.specs.GenWords.{SpellsGen}
+use Rattle.feed_io.specs.declared.gen_words.GenSpec.{GenSpec}
 use Rattle.ip_text.specs.Texts.{SpellsAddr}
 use Rattle.urpf_cli.specs.declared.words.Command.{Command}
 use Rattle.urpf_cli.specs.declared.words.Command.TheVariants.{Check, Offline}
@@ -18,9 +20,9 @@ IsName word = ¬ (word ≡ []) × ¬ (word ≡ codes ":")
 abbrev pub BeginsWith : List ℕ → List ℕ → Type 0
 BeginsWith front word = (rest : List ℕ) × (word ≡ front ++ rest)
 
--- the word is that of a session: it names the file of a trace, and does not begin with `gen:`
+-- the word is that of a session: it names the file of a trace, and where it begins with `gen:` a generator
 abbrev pub IsSessionWord : List ℕ → Type 0
-IsSessionWord word = IsName word × ¬ (BeginsWith (codes "gen:") word)
+IsSessionWord word = IsName word × (BeginsWith (codes "gen:") word → (spec : GenSpec) × SpellsGen word spec)
 
 -- where the pairs of a run come from: from nowhere, or from the table of this form and name
 pub data PairsFrom : Type 0 where

@@ -10,7 +10,7 @@ ghost use Rattle.runbook.specs.Book.{IsBook};
 ghost use Rattle.runbook.specs.declared.lines.BookLine.{BookLine};
 ghost use Rattle.urpf_cli.specs.Inputs.{Run};
 ghost use Rattle.urpf_cli.specs.Openings.{IsDecided, IsRefused, Opens, Texts};
-ghost use Rattle.urpf_cli.specs.Outputs.{IsOutput};
+ghost use Rattle.urpf_cli.specs.Outputs.{HaveSameItems, IsOutput};
 ghost use Rattle.urpf_cli.specs.PairTables.{HasTable};
 ghost use Rattle.urpf_cli.specs.Places.{Place};
 ghost use Rattle.urpf_cli.specs.RunText.{Gives, IsRunText};
@@ -61,14 +61,16 @@ pub fn one_run_text()
         → IsRunText run lines a → IsRunText run lines b → a ≡ b }
 {}
 
-/// A configuration, a runbook, a table of pairs and the events of the sessions have one output, however
-/// the octets are cut into events: the output of a run is a function of its inputs.
+/// A configuration, a runbook, a table of pairs and what the feeds of the sessions give have one output,
+/// whatever the feeds are that give the same items and leave as many octets: so it is however the octets
+/// are cut into events.
 pub fn one_output()
     ensures some { (from : PairsFrom) (texts : Texts) (settings : Settings) (rows : List (ℕ × BookLine))
         (table : Option Table) (events : List (List Event)) → IsConfig texts.config settings
         → IsBook settings texts.book rows → HasTable from texts.pairs table
         → length events ≡ length settings.sessions → (output : List ℕ) × IsOutput from texts events output }
     ensures only { (from : PairsFrom) (texts : Texts) (events others : List (List Event))
-        (output other : List ℕ) → AllZip SameButCuts events others → IsOutput from texts events output
+        (output other : List ℕ) → AllZip HaveSameItems events others → IsOutput from texts events output
         → IsOutput from texts others other → output ≡ other }
+    ensures cuts { (events others : List Event) → SameButCuts events others → HaveSameItems events others }
 {}

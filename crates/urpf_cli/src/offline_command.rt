@@ -1,6 +1,6 @@
 //! `offline CONFIG BOOK PAIRS S...`: runs a runbook over a table of pairs and the feeds of the sessions
 //! of a configuration.
-ghost use Rattle.std.specs.Prelude.{◌≡◌, ◌↔◌, ◌⊎◌, List, Result, Some, length, map, string_bytes};
+ghost use Rattle.std.specs.Prelude.{◌≡◌, ◌↔◌, ◌⊎◌, List, Result, length, map, string_bytes};
 ghost use Rattle.urpf_base.specs.Faults.{CountsFault, Rose};
 ghost use Rattle.feed_io.specs.Events.{Event};
 ghost use Rattle.control_core.specs.declared.limits.RunFault.{RunFault};
@@ -9,6 +9,7 @@ ghost use Rattle.urpf_cli.specs.declared.refusals.Refusal.{Refusal};
 ghost use Rattle.urpf_cli.specs.Offline.{IsBelowLimits, RanText, TookRunFront};
 ghost use Rattle.urpf_cli.specs.Openings.{AreTold, IsBeforePairs, IsDecided, IsRefused, Texts};
 ghost use Rattle.urpf_cli.specs.Runs.{CountEach, NoneRose};
+ghost use Rattle.urpf_cli.specs.Slots.{filled, slots_of};
 ghost use Rattle.urpf_cli.specs.Statuses.{IsRunStatus, status_of_refusal, status_of_run};
 ghost use Rattle.urpf_cli.specs.Words.{AreOfflineWords, nowhere};
 
@@ -17,12 +18,14 @@ use crate::refusals::status_of_refusal;
 use crate::run::run_book;
 use crate::status::{Object, Status};
 use control_core::RunFault;
-use feed_io::Feed;
+use feed_io::{BoxedFeed, Feed};
 use std::alloc::Global;
 use urpf_base::{Sink, Source};
 
-/// Runs the book over the feeds of the configured sessions, one feed for each session word, and writes
-/// the text of the run. The words are those after the program's name.
+/// Runs the book over the feeds of the configured sessions, one slot for each session word, and writes
+/// the text of the run. The words are those after the program's name. A feed of any type stands in a
+/// slot, and no slot is empty at first. At its end a feed goes out of its slot and is dropped; the others
+/// are in their slots at the return.
 ///
 /// The answers come in this order: the words; the read of the configuration or its length, and its
 /// first rule that is broken; the same of the book, and its first line that is refused; the same of the
@@ -30,13 +33,13 @@ use urpf_base::{Sink, Source};
 /// and of the sink as the run meets them. Before the run begins no feed is asked and nothing is written.
 /// The table of pairs is not read before the book is, and not at all where the word of the pairs is
 /// `none`.
-pub fn offline<S: Source, F: Feed, K: Sink>(
+pub fn offline<S: Source, K: Sink>(
     alloc: Global,
     words: &[String],
     config: &mut S,
     book: &mut S,
     pairs: &mut S,
-    feeds: &mut Vec<F>,
+    feeds: &mut Vec<Option<Box<dyn Feed + Send>>>,
     out: &mut K,
 ) -> Status
     requires { (are : AreOfflineWords (map string_bytes words.now))
@@ -49,7 +52,7 @@ pub fn offline<S: Source, F: Feed, K: Sink>(
         (S.faults book.old) (S.faults book.new) }
     ensures pairs { CountsFault (result ≡ Status.ReadFault Object.Pairs)
         (S.faults pairs.old) (S.faults pairs.new) }
-    ensures feeds { CountEach F.faults (λ s. result ≡ Status.ReadFault (Object.Session s))
+    ensures feeds { CountEach ⟦<BoxedFeed as Feed>⟧.faults (λ s. result ≡ Status.ReadFault (Object.Session s))
         feeds.old.items feeds.new.items }
     ensures sink { CountsFault (result ≡ Status.WriteFault) (K.faults out.old) (K.faults out.new) }
     ensures known { IsRunStatus (length feeds.old.items) result }
@@ -76,23 +79,24 @@ pub fn offline<S: Source, F: Feed, K: Sink>(
     ensures ran { (end : Result (Unit {0}) RunFault) (t : Texts) (events : List (List Event))
         → HadMemory end → result ≡ status_of_run end
         → AreTold (S.left config.old) (S.left book.old) (S.left pairs.old) t
-        → map F.left feeds.old.items ≡ map Some events
-        → RanText (map string_bytes words.now) t events end (map F.left feeds.new.items)
+        → slots_of ⟦<BoxedFeed as Feed>⟧.left feeds.old.items ≡ map filled events
+        → RanText (map string_bytes words.now) t events end (slots_of ⟦<BoxedFeed as Feed>⟧.left feeds.new.items)
         (K.held out.old) (K.held out.new) }
     ensures memory { (t : Texts) (events : List (List Event)) → result ≡ Status.OutOfMemory
         → AreTold (S.left config.old) (S.left book.old) (S.left pairs.old) t
-        → map F.left feeds.old.items ≡ map Some events
+        → slots_of ⟦<BoxedFeed as Feed>⟧.left feeds.old.items ≡ map filled events
         → ((feeds.new ≡ feeds.old) × (out.new ≡ out.old))
-        ⊎ TookRunFront (map string_bytes words.now) t events (K.held out.old) (K.held out.new) }
+        ⊎ TookRunFront (map string_bytes words.now) t events
+        (slots_of ⟦<BoxedFeed as Feed>⟧.left feeds.new.items) (K.held out.old) (K.held out.new) }
     // Where nothing fails and no limit is asked past, the run is done.
     ensures done_only { (t : Texts) (events : List (List Event))
         → AreTold (S.left config.old) (S.left book.old) (S.left pairs.old) t
-        → map F.left feeds.old.items ≡ map Some events
+        → slots_of ⟦<BoxedFeed as Feed>⟧.left feeds.old.items ≡ map filled events
         → IsBelowLimits (map string_bytes words.now) t events
         → ¬ Rose (S.faults config.old) (S.faults config.new)
         → ¬ Rose (S.faults book.old) (S.faults book.new)
         → ¬ Rose (S.faults pairs.old) (S.faults pairs.new)
-        → NoneRose F.faults feeds.old.items feeds.new.items
+        → NoneRose ⟦<BoxedFeed as Feed>⟧.faults feeds.old.items feeds.new.items
         → ¬ Rose (K.faults out.old) (K.faults out.new)
         → (result ≡ Status.Done) ⊎ (result ≡ Status.OutOfMemory) }
 {

@@ -1,6 +1,6 @@
 //! A run over the sessions of a configuration: the lines of a runbook and a table of pairs come in, and
 //! the text of the run goes to a sink.
-ghost use Rattle.std.specs.Prelude.{◌≡◌, ◌≤◌, ◌<◌, ◌^◌, [], ◌∷◌, ℕ, Err, List, length, map, IfErr, IfOk, OnErr, OnOk};
+ghost use Rattle.std.specs.Prelude.{◌≡◌, ◌≤◌, ◌<◌, ◌^◌, [], ◌∷◌, ℕ, Err, List, length, IfErr, IfOk, OnErr, OnOk};
 ghost use Rattle.std.specs.Io.KnownBytes.{Appends};
 ghost use Rattle.urpf_base.specs.Faults.{CountsFault};
 ghost use Rattle.urpf_base.specs.declared.sessions.SessionConfig.{SessionConfig};
@@ -10,16 +10,17 @@ ghost use Rattle.runbook.specs.Book.{AreConfiguredFor};
 ghost use Rattle.control_core.specs.declared.limits.RunFault.{RunFault};
 ghost use Rattle.control_core.specs.Controls.{IsOpened, IsUnused, first_mark, without_pairs};
 ghost use Rattle.control_core.specs.Worlds.{Opening, last_number};
-ghost use Rattle.urpf_cli.specs.Inputs.{IsRun, Run, opening_of, told_by};
+ghost use Rattle.urpf_cli.specs.Inputs.{IsRun, Run, opening_of};
 ghost use Rattle.urpf_cli.specs.PairTables.{pairs_in, skipped_in};
 ghost use Rattle.urpf_cli.specs.Places.{opening};
 ghost use Rattle.urpf_cli.specs.RunText.{AreTotals, head_text};
 ghost use Rattle.urpf_cli.specs.Runs.{CountEach, IsAt, NamesSession, RanBook, RanSteps, Serves, TookFront, run_limits};
+ghost use Rattle.urpf_cli.specs.Slots.{slots_of, told_by};
 ghost use Rattle.urpf_cli.specs.Steps.{lines_in, steps_of};
 
 use crate::run_line::{put_last_mark, take_line};
 use control_core::{Control, ITEM_LIMIT, Limits, Marks, OCTET_LIMIT, RunFault, offer};
-use feed_io::Feed;
+use feed_io::{BoxedFeed, Feed};
 use report_text::{put_done, put_run};
 use roa_irr::Pairs;
 use router_config::Config;
@@ -39,25 +40,25 @@ struct Totals {
     skipped: u64,
 }
 
-/// Runs the book over the pairs of the table, where there is one, and the feeds of the sessions, one
-/// each, from the opening to the closing line. Where the opening wants memory nothing is written and no
+/// Runs the book over the pairs of the table, where there is one, and the feeds in the slots of the
+/// sessions, one each, from the opening to the closing line. A feed goes out of its slot at its end. Where the opening wants memory nothing is written and no
 /// feed is asked.
-pub fn run_book<F: Feed, K: Sink>(
+pub fn run_book<K: Sink>(
     alloc: Global,
     config: Config,
     book: &Book,
     pairs: &Option<Pairs>,
-    feeds: &mut Vec<F>,
+    feeds: &mut Vec<Option<BoxedFeed>>,
     out: &mut K,
 ) -> Result<(), RunFault>
     requires slots { length feeds.old.items ≡ length config.sessions }
     requires few { length book.now < 2 ^ 32 }
     requires configured { AreConfiguredFor config book.now }
     ensures ran { (run : Run) → run.config ≡ config → run.table ≡ pairs.now → IsRun run
-        → map F.left feeds.old.items ≡ told_by run
-        → RanBook run (lines_in book.now) result (map F.left feeds.new.items) (K.held out.old) (K.held out.new) }
+        → slots_of ⟦<BoxedFeed as Feed>⟧.left feeds.old.items ≡ told_by run
+        → RanBook run (lines_in book.now) result (slots_of ⟦<BoxedFeed as Feed>⟧.left feeds.new.items) (K.held out.old) (K.held out.new) }
     ensures names { IfErr result (NamesSession (length config.sessions)) }
-    ensures feeds { CountEach F.faults (λ s. result ≡ Err (RunFault.ReadFault s)) feeds.old.items feeds.new.items }
+    ensures feeds { CountEach ⟦<BoxedFeed as Feed>⟧.faults (λ s. result ≡ Err (RunFault.ReadFault s)) feeds.old.items feeds.new.items }
     ensures sink { CountsFault (result ≡ Err RunFault.WriteFault) (K.faults out.old) (K.faults out.new) }
 {
     let (mut control, totals) = match open_control(alloc, config, pairs) {
@@ -68,11 +69,11 @@ pub fn run_book<F: Feed, K: Sink>(
 }
 
 /// Runs the book over a control at its opening, which has so much.
-fn run_control<E: SetEngine, F: Feed, K: Sink>(
+fn run_control<E: SetEngine, K: Sink>(
     control: &mut Control<E>,
     totals: &Totals,
     book: &Book,
-    feeds: &mut Vec<F>,
+    feeds: &mut Vec<Option<BoxedFeed>>,
     out: &mut K,
 ) -> Result<(), RunFault>
     requires opened { (opening : Opening) × IsOpened opening run_limits control.old
@@ -80,10 +81,10 @@ fn run_control<E: SetEngine, F: Feed, K: Sink>(
     requires slots { length feeds.old.items ≡ length control.old.peers }
     requires few { length book.now < 2 ^ 32 }
     ensures ran { (run : Run) → IsOpened (opening_of run) run_limits control.old
-        → AreTotals run.config run.table totals.now → IsRun run → map F.left feeds.old.items ≡ told_by run
-        → RanBook run (lines_in book.now) result (map F.left feeds.new.items) (K.held out.old) (K.held out.new) }
+        → AreTotals run.config run.table totals.now → IsRun run → slots_of ⟦<BoxedFeed as Feed>⟧.left feeds.old.items ≡ told_by run
+        → RanBook run (lines_in book.now) result (slots_of ⟦<BoxedFeed as Feed>⟧.left feeds.new.items) (K.held out.old) (K.held out.new) }
     ensures names { IfErr result (NamesSession (length control.old.peers)) }
-    ensures feeds { CountEach F.faults (λ s. result ≡ Err (RunFault.ReadFault s)) feeds.old.items feeds.new.items }
+    ensures feeds { CountEach ⟦<BoxedFeed as Feed>⟧.faults (λ s. result ≡ Err (RunFault.ReadFault s)) feeds.old.items feeds.new.items }
     ensures sink { CountsFault (result ≡ Err RunFault.WriteFault) (K.faults out.old) (K.faults out.new) }
 {
     if let Err(fault) = open_run(totals, control.marks(), out) {
@@ -186,10 +187,10 @@ fn open_run<K: Sink>(totals: &Totals, marks: &Marks, out: &mut K) -> Result<(), 
 }
 
 /// Takes all lines of the book, from the opening on.
-fn take_lines<E: SetEngine, F: Feed, K: Sink>(
+fn take_lines<E: SetEngine, K: Sink>(
     control: &mut Control<E>,
     book: &Book,
-    feeds: &mut Vec<F>,
+    feeds: &mut Vec<Option<BoxedFeed>>,
     out: &mut K,
 ) -> Result<(), RunFault>
     requires slots { length feeds.old.items ≡ length control.old.peers }
@@ -197,12 +198,12 @@ fn take_lines<E: SetEngine, F: Feed, K: Sink>(
     requires few { length book.now < 2 ^ 32 }
     requires edits { control.old.edits ≡ 0 }
     requires number { last_number control.old.marks ≡ 0 }
-    ensures ran { (run : Run) → IsAt run (opening run.config.sessions) control.old 0 (map F.left feeds.old.items)
+    ensures ran { (run : Run) → IsAt run (opening run.config.sessions) control.old 0 (slots_of ⟦<BoxedFeed as Feed>⟧.left feeds.old.items)
         → (rounds : ℕ) × RanSteps run (opening run.config.sessions)
         (steps_of (length control.old.peers) (lines_in book.now)) result control.new rounds
-        (map F.left feeds.new.items) (K.held out.old) (K.held out.new) }
+        (slots_of ⟦<BoxedFeed as Feed>⟧.left feeds.new.items) (K.held out.old) (K.held out.new) }
     ensures names { IfErr result (NamesSession (length control.old.peers)) }
-    ensures feeds { CountEach F.faults (λ s. result ≡ Err (RunFault.ReadFault s)) feeds.old.items feeds.new.items }
+    ensures feeds { CountEach ⟦<BoxedFeed as Feed>⟧.faults (λ s. result ≡ Err (RunFault.ReadFault s)) feeds.old.items feeds.new.items }
     ensures sink { CountsFault (result ≡ Err RunFault.WriteFault) (K.faults out.old) (K.faults out.new) }
 {
     let mut rounds = 0;

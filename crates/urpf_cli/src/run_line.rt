@@ -1,8 +1,7 @@
 //! What one line of a runbook does to a run, and which lines of output it gives.
 ghost use Rattle.std.specs.Prelude.{◌≡◌, ◌+◌, ◌^◌, ◌<◌, ◌≤◌, [], ◌∷◌, ◌++◌, Err, IfErr, List, ℕ, Option, Some};
-ghost use Rattle.std.specs.Prelude.{length, map};
+ghost use Rattle.std.specs.Prelude.{length};
 ghost use Rattle.urpf_base.specs.Faults.{CountsFault};
-ghost use Rattle.feed_io.specs.Events.{Event};
 ghost use Rattle.report_text.specs.Lines.{publish_line};
 ghost use Rattle.router_config.specs.Edits.{IsForConfigured};
 ghost use Rattle.router_config.specs.Settings.{Settings};
@@ -14,11 +13,12 @@ ghost use Rattle.control_core.specs.declared.limits.RunFault.{RunFault};
 ghost use Rattle.urpf_cli.specs.Inputs.{Run};
 ghost use Rattle.urpf_cli.specs.Places.{Place};
 ghost use Rattle.urpf_cli.specs.Runs.{CountEach, CountsOn, IsAt, NamesSession, RanStep, RanSteps, Serves};
+ghost use Rattle.urpf_cli.specs.Slots.{Slot, slots_of};
 ghost use Rattle.urpf_cli.specs.Steps as steps;
 ghost use Rattle.urpf_cli.specs.Steps.{pulls_of, steps_in};
 
 use control_core::{Control, Marks, RunFault, offer};
-use feed_io::Feed;
+use feed_io::{BoxedFeed, Feed};
 use report_text::{put_check, put_mark, put_round};
 use router_config::Edit;
 use rpf_plain::SetEngine;
@@ -26,11 +26,11 @@ use runbook::BookLine;
 use urpf_base::{Addr, IfaceId, Line, OutOfMemory, Sink};
 
 /// Does what the line asks for, and offers what it gives to the sink.
-pub fn take_line<E: SetEngine, F: Feed, K: Sink>(
+pub fn take_line<E: SetEngine, K: Sink>(
     control: &mut Control<E>,
     rounds: &mut u64,
     line: &BookLine,
-    feeds: &mut Vec<F>,
+    feeds: &mut Vec<Option<BoxedFeed>>,
     out: &mut K,
 ) -> Result<(), RunFault>
     requires slots { length feeds.old.items ≡ length control.old.peers }
@@ -38,14 +38,14 @@ pub fn take_line<E: SetEngine, F: Feed, K: Sink>(
     requires edits { control.old.edits < 2 ^ 32 }
     requires number { last_number control.old.marks < 2 ^ 32 }
     requires rounds { rounds.old < 2 ^ 32 }
-    ensures ran { (run : Run) (place : Place) → IsAt run place control.old rounds.old (map F.left feeds.old.items)
+    ensures ran { (run : Run) (place : Place) → IsAt run place control.old rounds.old (slots_of ⟦<BoxedFeed as Feed>⟧.left feeds.old.items)
         → RanSteps run place (steps_in (length control.old.peers) line.now) result control.new rounds.new
-        (map F.left feeds.new.items) (K.held out.old) (K.held out.new) }
+        (slots_of ⟦<BoxedFeed as Feed>⟧.left feeds.new.items) (K.held out.old) (K.held out.new) }
     ensures names { IfErr result (NamesSession (length control.old.peers)) }
     ensures serves { (config : Settings) → Serves config control.old → Serves config control.new }
     ensures counts { CountsOn control.old control.new }
     ensures rounds { rounds.new ≤ rounds.old + 1 }
-    ensures feeds { CountEach F.faults (λ s. result ≡ Err (RunFault.ReadFault s)) feeds.old.items feeds.new.items }
+    ensures feeds { CountEach ⟦<BoxedFeed as Feed>⟧.faults (λ s. result ≡ Err (RunFault.ReadFault s)) feeds.old.items feeds.new.items }
     ensures sink { CountsFault (result ≡ Err RunFault.WriteFault) (K.faults out.old) (K.faults out.new) }
 {
     match line {
@@ -59,9 +59,9 @@ pub fn take_line<E: SetEngine, F: Feed, K: Sink>(
 }
 
 /// Pulls the session of this number, or each where none is given.
-fn pull_named<E: SetEngine, F: Feed, K: Sink>(
+fn pull_named<E: SetEngine, K: Sink>(
     control: &mut Control<E>,
-    feeds: &mut Vec<F>,
+    feeds: &mut Vec<Option<BoxedFeed>>,
     session: Option<u32>,
     count: Option<u64>,
     out: &mut K,
@@ -70,13 +70,13 @@ fn pull_named<E: SetEngine, F: Feed, K: Sink>(
     requires serves { (config : Settings) × Serves config control.old }
     requires named { (number : ℕ) → session ≡ Some number → number < length control.old.peers }
     ensures ran { (run : Run) (place : Place) (rounds : ℕ)
-        → IsAt run place control.old rounds (map F.left feeds.old.items)
+        → IsAt run place control.old rounds (slots_of ⟦<BoxedFeed as Feed>⟧.left feeds.old.items)
         → RanSteps run place (steps_in (length control.old.peers) (BookLine.Pull session count)) result control.new
-        rounds (map F.left feeds.new.items) (K.held out.old) (K.held out.new) }
+        rounds (slots_of ⟦<BoxedFeed as Feed>⟧.left feeds.new.items) (K.held out.old) (K.held out.new) }
     ensures names { IfErr result (NamesSession (length control.old.peers)) }
     ensures serves { (config : Settings) → Serves config control.old → Serves config control.new }
     ensures counts { CountsOn control.old control.new }
-    ensures feeds { CountEach F.faults (λ s. result ≡ Err (RunFault.ReadFault s)) feeds.old.items feeds.new.items }
+    ensures feeds { CountEach ⟦<BoxedFeed as Feed>⟧.faults (λ s. result ≡ Err (RunFault.ReadFault s)) feeds.old.items feeds.new.items }
     ensures sink { CountsFault (result ≡ Err RunFault.WriteFault) (K.faults out.old) (K.faults out.new) }
 {
     match session {
@@ -86,22 +86,22 @@ fn pull_named<E: SetEngine, F: Feed, K: Sink>(
 }
 
 /// Pulls each session, from session 0 on.
-fn pull_each<E: SetEngine, F: Feed, K: Sink>(
+fn pull_each<E: SetEngine, K: Sink>(
     control: &mut Control<E>,
-    feeds: &mut Vec<F>,
+    feeds: &mut Vec<Option<BoxedFeed>>,
     count: Option<u64>,
     out: &mut K,
 ) -> Result<(), RunFault>
     requires slots { length feeds.old.items ≡ length control.old.peers }
     requires serves { (config : Settings) × Serves config control.old }
     ensures ran { (run : Run) (place : Place) (rounds : ℕ)
-        → IsAt run place control.old rounds (map F.left feeds.old.items)
+        → IsAt run place control.old rounds (slots_of ⟦<BoxedFeed as Feed>⟧.left feeds.old.items)
         → RanSteps run place (pulls_of (length control.old.peers) count) result control.new rounds
-        (map F.left feeds.new.items) (K.held out.old) (K.held out.new) }
+        (slots_of ⟦<BoxedFeed as Feed>⟧.left feeds.new.items) (K.held out.old) (K.held out.new) }
     ensures names { IfErr result (NamesSession (length control.old.peers)) }
     ensures serves { (config : Settings) → Serves config control.old → Serves config control.new }
     ensures counts { CountsOn control.old control.new }
-    ensures feeds { CountEach F.faults (λ s. result ≡ Err (RunFault.ReadFault s)) feeds.old.items feeds.new.items }
+    ensures feeds { CountEach ⟦<BoxedFeed as Feed>⟧.faults (λ s. result ≡ Err (RunFault.ReadFault s)) feeds.old.items feeds.new.items }
     ensures sink { CountsFault (result ≡ Err RunFault.WriteFault) (K.faults out.old) (K.faults out.new) }
 {
     let sessions = feeds.len() as u32;
@@ -114,9 +114,9 @@ fn pull_each<E: SetEngine, F: Feed, K: Sink>(
 }
 
 /// Pulls one session.
-fn pull<E: SetEngine, F: Feed, K: Sink>(
+fn pull<E: SetEngine, K: Sink>(
     control: &mut Control<E>,
-    feeds: &mut Vec<F>,
+    feeds: &mut Vec<Option<BoxedFeed>>,
     session: u32,
     count: Option<u64>,
     out: &mut K,
@@ -124,14 +124,14 @@ fn pull<E: SetEngine, F: Feed, K: Sink>(
     requires slots { length feeds.old.items ≡ length control.old.peers }
     requires session { session < length control.old.peers }
     ensures ran { (run : Run) (place : Place) (rounds : ℕ)
-        → IsAt run place control.old rounds (map F.left feeds.old.items)
+        → IsAt run place control.old rounds (slots_of ⟦<BoxedFeed as Feed>⟧.left feeds.old.items)
         → RanStep run place (steps.pull session count) result control.new rounds
-        (map F.left feeds.new.items) (K.held out.old) (K.held out.new) }
+        (slots_of ⟦<BoxedFeed as Feed>⟧.left feeds.new.items) (K.held out.old) (K.held out.new) }
     ensures names { IfErr result (NamesSession (length control.old.peers)) }
     ensures serves { (config : Settings) → Serves config control.old → Serves config control.new }
     ensures edits { control.new.edits ≡ control.old.edits }
     ensures number { last_number control.new.marks ≡ last_number control.old.marks }
-    ensures feeds { CountEach F.faults (λ s. result ≡ Err (RunFault.ReadFault s)) feeds.old.items feeds.new.items }
+    ensures feeds { CountEach ⟦<BoxedFeed as Feed>⟧.faults (λ s. result ≡ Err (RunFault.ReadFault s)) feeds.old.items feeds.new.items }
     ensures sink { CountsFault (result ≡ Err RunFault.WriteFault) (K.faults out.old) (K.faults out.new) }
 {
     control.pull(feeds, session, count, out)
@@ -141,9 +141,9 @@ fn pull<E: SetEngine, F: Feed, K: Sink>(
 fn publish<E: SetEngine, K: Sink>(control: &mut Control<E>, out: &mut K) -> Result<(), RunFault>
     requires number { last_number control.old.marks < 2 ^ 32 }
     requires sessions { length control.old.peers ≤ 128 }
-    ensures ran { (run : Run) (place : Place) (rounds : ℕ) (lefts : List (Option (List Event)))
-        → IsAt run place control.old rounds lefts
-        → RanStep run place steps.publish result control.new rounds lefts (K.held out.old) (K.held out.new) }
+    ensures ran { (run : Run) (place : Place) (rounds : ℕ) (slots : List Slot)
+        → IsAt run place control.old rounds slots
+        → RanStep run place steps.publish result control.new rounds slots (K.held out.old) (K.held out.new) }
     ensures err { IfErr result (NamesSession 0) }
     ensures serves { (config : Settings) → Serves config control.old → Serves config control.new }
     ensures edits { control.new.edits ≡ control.old.edits }
@@ -175,9 +175,9 @@ pub fn put_last_mark(marks: &Marks, cells: u64, to: &mut Line)
 /// Ends a round, and offers its line.
 fn end_round<K: Sink>(rounds: &mut u64, out: &mut K) -> Result<(), RunFault>
     requires { rounds.old < 2 ^ 32 }
-    ensures ran { (run : Run) (place : Place) (control : ControlState) (lefts : List (Option (List Event)))
-        → IsAt run place control rounds.old lefts
-        → RanStep run place steps.round result control rounds.new lefts (K.held out.old) (K.held out.new) }
+    ensures ran { (run : Run) (place : Place) (control : ControlState) (slots : List Slot)
+        → IsAt run place control rounds.old slots
+        → RanStep run place steps.round result control rounds.new slots (K.held out.old) (K.held out.new) }
     ensures err { IfErr result (NamesSession 0) }
     ensures rounds { rounds.new ≡ rounds.old + 1 }
     ensures sink { CountsFault (result ≡ Err RunFault.WriteFault) (K.faults out.old) (K.faults out.new) }
@@ -195,9 +195,9 @@ fn check<E: SetEngine, K: Sink>(
     addr: &Addr,
     out: &mut K,
 ) -> Result<(), RunFault>
-    ensures ran { (run : Run) (place : Place) (rounds : ℕ) (lefts : List (Option (List Event)))
-        → IsAt run place control.now rounds lefts
-        → RanStep run place (steps.check iface addr.now) result control.now rounds lefts
+    ensures ran { (run : Run) (place : Place) (rounds : ℕ) (slots : List Slot)
+        → IsAt run place control.now rounds slots
+        → RanStep run place (steps.check iface addr.now) result control.now rounds slots
         (K.held out.old) (K.held out.new) }
     ensures err { IfErr result (NamesSession 0) }
     ensures sink { CountsFault (result ≡ Err RunFault.WriteFault) (K.faults out.old) (K.faults out.new) }
@@ -212,9 +212,9 @@ fn check<E: SetEngine, K: Sink>(
 fn change<E: SetEngine>(control: &mut Control<E>, edit: &Edit) -> Result<(), RunFault>
     requires few { control.old.edits < 2 ^ 32 }
     requires configured { IsForConfigured control.old.kinds edit.now }
-    ensures ran { (run : Run) (place : Place) (rounds : ℕ) (lefts : List (Option (List Event)))
-        (held : Option (List ℕ)) → IsAt run place control.old rounds lefts
-        → RanStep run place (steps.change edit.now) result control.new rounds lefts held held }
+    ensures ran { (run : Run) (place : Place) (rounds : ℕ) (slots : List Slot)
+        (held : Option (List ℕ)) → IsAt run place control.old rounds slots
+        → RanStep run place (steps.change edit.now) result control.new rounds slots held held }
     ensures err { IfErr result (λ fault. fault ≡ RunFault.OutOfMemory) }
     ensures serves { (config : Settings) → Serves config control.old → Serves config control.new }
     ensures edits { control.new.edits ≤ control.old.edits + 1 }
@@ -228,9 +228,9 @@ fn change<E: SetEngine>(control: &mut Control<E>, edit: &Edit) -> Result<(), Run
 
 /// Offers the line of the routes and the pairs of now.
 fn summarize<E: SetEngine, K: Sink>(control: &Control<E>, out: &mut K) -> Result<(), RunFault>
-    ensures ran { (run : Run) (place : Place) (rounds : ℕ) (lefts : List (Option (List Event)))
-        → IsAt run place control.now rounds lefts
-        → RanStep run place steps.summary result control.now rounds lefts (K.held out.old) (K.held out.new) }
+    ensures ran { (run : Run) (place : Place) (rounds : ℕ) (slots : List Slot)
+        → IsAt run place control.now rounds slots
+        → RanStep run place steps.summary result control.now rounds slots (K.held out.old) (K.held out.new) }
     ensures err { IfErr result (NamesSession 0) }
     ensures sink { CountsFault (result ≡ Err RunFault.WriteFault) (K.faults out.old) (K.faults out.new) }
 {

@@ -5,9 +5,10 @@
 //! check SESSION SOURCE            offline CONFIG BOOK PAIRS S...
 //! ```
 //!
-//! SESSION, CONFIG, BOOK and each S name files, and are neither empty nor `:`. SOURCE is an address.
-//! PAIRS is `none`, or `vrp:` or `irr:` and behind it the name of a file, which is not empty. There may
-//! be no S, and none begins with `gen:`.
+//! SESSION, CONFIG and BOOK name files, and are neither empty nor `:`. SOURCE is an address. PAIRS is
+//! `none`, or `vrp:` or `irr:` and behind it the name of a file, which is not empty. Each S names a file
+//! in the same way, or is `gen:SEED:N` for a generator; no file is named by a word that begins with
+//! `gen:`. There may be no S.
 ghost use Rattle.std.specs.Prelude.{◌≡◌, ◌↔◌, ◌++◌, ℕ, List, [], IfNone, IfSome, IsSomeAnd, IsTrue, None, Some, map};
 ghost use Rattle.std.specs.Prelude.{string_bytes};
 ghost use Rattle.std.specs.List.{All};
@@ -15,6 +16,7 @@ ghost use Rattle.urpf_base.specs.declared.address.Addr.{Addr};
 ghost use Rattle.urpf_cli.specs.Words.{AreCheckWords, AreOfflineWords, AskFor, IsName, IsSessionWord};
 ghost use Rattle.urpf_cli.specs.Words.{PairsFrom, Request, SaysPairs, pairs_from, request_of};
 
+use feed_io::read_gen;
 use ip_text::read_addr;
 use urpf_base::Addr;
 
@@ -26,8 +28,8 @@ pub enum Command<'a> {
         session: &'a str,
         source: Addr,
     },
-    /// Runs the runbook in this file, over the configuration in this file, these pairs and the traces
-    /// in these files.
+    /// Runs the runbook in this file, over the configuration in this file, these pairs, and the traces
+    /// in these files and the generators that these words name.
     Offline {
         config: &'a str,
         book: &'a str,
@@ -225,11 +227,16 @@ fn are_session_words(words: &[String]) -> bool
     true
 }
 
-/// Whether the word is that of a session: it names a file, and does not begin with `gen:`.
+/// Whether the word is that of a session: it names a generator where it begins with `gen:`, and
+/// otherwise a file.
 fn is_session_word(word: &str) -> bool
     ensures { IsTrue result ↔ IsSessionWord word.now }
 {
-    is_name(word) && !word.as_bytes().starts_with(b"gen:")
+    let octets = word.as_bytes();
+    if octets.starts_with(b"gen:") {
+        return read_gen(octets).is_some();
+    }
+    is_name(word)
 }
 
 /// Whether the word can name a file: it is neither empty nor `:`.

@@ -2,7 +2,7 @@ use Rattle.std.proofs.Common.{◌≡◌, ◌∙◌, ℕ, List, Err, Result, ap, 
 use Rattle.std.specs.Prelude.{IfErr, string_bytes}
 use Rattle.feed_io.specs.Events.{Event}
 use Rattle.control_core.specs.declared.limits.RunFault.{RunFault}
-use Rattle.control_core.specs.declared.limits.RunFault.TheVariants.{OutOfMemory}
+use Rattle.control_core.specs.declared.limits.RunFault.TheVariants.{OutOfMemory, ReadFault}
 use Rattle.router_config.specs.Settings.{Settings}
 use Rattle.runbook.specs.declared.lines.BookLine.{BookLine}
 use Rattle.urpf_cli.specs.Inputs.{events_of}
@@ -11,8 +11,10 @@ use Rattle.urpf_cli.specs.Openings.{IsBeforePairs, IsFailure, IsRefused, Opens}
 use Rattle.urpf_cli.specs.RunText.{steps_for}
 use Rattle.urpf_cli.specs.Runs.{NamesSession, RanBook}
 use Rattle.urpf_cli.specs.Statuses.{IsRunStatus, status_of_run}
+use Rattle.urpf_cli.specs.Slots.{slots_of}
 use Rattle.urpf_cli.specs.Steps.{lines_in, steps_of}
 use Rattle.urpf_cli.specs.declared.refusals.Refusal.{Refusal}
+use Rattle.urpf_cli.proofs.FeedFaults.{each_by}
 use Rattle.urpf_cli.proofs.OfflineEnds.{as_many_told, begun, done_below, none_failed, one_run_end, run_known}
 use Rattle.urpf_cli.proofs.OpeningLaws.{one_opening}
 use Rattle.urpf_cli.proofs.RefusalStatuses.{before_pairs, failure_told, one_status, one_told}
@@ -39,7 +41,7 @@ pub returns-in-Err-clause-done_only : goal.returns-in-Err-clause-done_only
 returns-in-Err-clause-done_only g c = λ texts events are told below read_config read_book read_pairs feeds out.
     let words = map string_bytes c.args.words.now in
     let given : length events ≡ c.len.result =
-    as_many_told g.F.Feed.left c.args.feeds.now.items events told
+    as_many_told _ c.args.feeds.now.items events told
     ∙ sym (c.len.ensures ∙ c.args.feeds.now.ok.0) in
     let opens : Opens words texts c.len.result below.settings below.rows below.table =
     subst (λ (n : ℕ). Opens words texts n below.settings below.rows below.table) given below.opens in
@@ -68,11 +70,11 @@ returns-clause-known g c =
 pub returns-clause-ran : goal.returns-clause-ran
 returns-clause-ran g c = λ end texts events had is are told.
     let o = c.in-Ok.opening in
-    let lefts = map g.F.Feed.left c.args.feeds.now.items in
+    let slots = slots_of (λ b. (goal.Feed-dyn g (b.vtable, b.value)).left b.value) c.args.feeds.now.items in
     let given : length events ≡ c.len.result =
-    as_many_told g.F.Feed.left c.args.feeds.now.items events told
+    as_many_told _ c.args.feeds.now.items events told
     ∙ sym (c.len.ensures ∙ c.args.feeds.now.ok.0) in
-    let b = begun o.config o.pairs events lefts (given ∙ c.in-Ok.ensures.ready.counted) told in
+    let b = begun o.config o.pairs events slots (given ∙ c.in-Ok.ensures.ready.counted) told in
     record {
       settings = o.config;
       rows = o.book;
@@ -82,7 +84,7 @@ returns-clause-ran g c = λ end texts events had is are told.
       run = b.run;
       reads = b.reads;
       ran = subst (λ (e : Result (Unit {0}) RunFault). RanBook b.run (lines_in o.book) e
-          (map g.F.Feed.left c.run_book.new.feeds.items) (g.K.Sink.held c.args.out.now)
+          (slots_of (λ b. (goal.Feed-dyn g (b.vtable, b.value)).left b.value) c.run_book.new.feeds.items) (g.K.Sink.held c.args.out.now)
           (g.K.Sink.held c.run_book.new.out))
           (one_run_end c.run_book.result end (sym c.status_of_end.ensures ∙ is))
           (c.run_book.ensures.ran b.run b.reads.configured b.reads.tabled b.reads.is b.told);
@@ -91,15 +93,15 @@ returns-clause-ran g c = λ end texts events had is are told.
 pub returns-clause-memory : goal.returns-clause-memory
 returns-clause-memory g c = λ texts events is are told.
     let o = c.in-Ok.opening in
-    let lefts = map g.F.Feed.left c.args.feeds.now.items in
+    let slots = slots_of (λ b. (goal.Feed-dyn g (b.vtable, b.value)).left b.value) c.args.feeds.now.items in
     let given : length events ≡ c.len.result =
-    as_many_told g.F.Feed.left c.args.feeds.now.items events told
+    as_many_told _ c.args.feeds.now.items events told
     ∙ sym (c.len.ensures ∙ c.args.feeds.now.ok.0) in
-    let b = begun o.config o.pairs events lefts (given ∙ c.in-Ok.ensures.ready.counted) told in
-    let starved : RanBook b.run (lines_in o.book) (Err OutOfMemory) (map g.F.Feed.left c.run_book.new.feeds.items)
+    let b = begun o.config o.pairs events slots (given ∙ c.in-Ok.ensures.ready.counted) told in
+    let starved : RanBook b.run (lines_in o.book) (Err OutOfMemory) (slots_of (λ b. (goal.Feed-dyn g (b.vtable, b.value)).left b.value) c.run_book.new.feeds.items)
     (g.K.Sink.held c.args.out.now) (g.K.Sink.held c.run_book.new.out) =
     subst (λ (e : Result (Unit {0}) RunFault). RanBook b.run (lines_in o.book) e
-    (map g.F.Feed.left c.run_book.new.feeds.items) (g.K.Sink.held c.args.out.now)
+    (slots_of (λ b. (goal.Feed-dyn g (b.vtable, b.value)).left b.value) c.run_book.new.feeds.items) (g.K.Sink.held c.args.out.now)
     (g.K.Sink.held c.run_book.new.out))
     (one_run_end c.run_book.result (Err OutOfMemory) (sym c.status_of_end.ensures ∙ is))
     (c.run_book.ensures.ran b.run b.reads.configured b.reads.tabled b.reads.is b.told) in
@@ -112,17 +114,18 @@ returns-clause-memory g c = λ texts events is are told.
       run = b.run;
       reads = b.reads;
       took = starved.0;
+      emptied = starved.2;
     })
 
 pub returns-clause-done_only : goal.returns-clause-done_only
 returns-clause-done_only g c = λ texts events are told below read_config read_book read_pairs feeds out.
     let words = map string_bytes c.args.words.now in
     let o = c.in-Ok.opening in
-    let lefts = map g.F.Feed.left c.args.feeds.now.items in
+    let slots = slots_of (λ b. (goal.Feed-dyn g (b.vtable, b.value)).left b.value) c.args.feeds.now.items in
     let given : length events ≡ c.len.result =
-    as_many_told g.F.Feed.left c.args.feeds.now.items events told
+    as_many_told _ c.args.feeds.now.items events told
     ∙ sym (c.len.ensures ∙ c.args.feeds.now.ok.0) in
-    let b = begun o.config o.pairs events lefts (given ∙ c.in-Ok.ensures.ready.counted) told in
+    let b = begun o.config o.pairs events slots (given ∙ c.in-Ok.ensures.ready.counted) told in
     let same =
     one_opening words texts (length events) below.settings o.config below.rows o.book below.table o.pairs below.opens
     (subst (λ (n : ℕ). Opens words texts n o.config o.book o.pairs) (sym given)
@@ -138,13 +141,22 @@ returns-clause-done_only g c = λ texts events are told below read_config read_b
     let many : length o.config.sessions ≡ length c.args.feeds.now.items =
     sym c.in-Ok.ensures.ready.counted ∙ c.len.ensures ∙ c.args.feeds.now.ok.0 in
     let done =
-    done_below b.run (lines_in o.book) c.run_book.result (map g.F.Feed.left c.run_book.new.feeds.items)
+    done_below b.run (lines_in o.book) c.run_book.result (slots_of (λ b. (goal.Feed-dyn g (b.vtable, b.value)).left b.value) c.run_book.new.feeds.items)
     (g.K.Sink.held c.args.out.now) (g.K.Sink.held c.run_book.new.out)
     (c.run_book.ensures.ran b.run b.reads.configured b.reads.tabled b.reads.is b.told) stays
-    (none_failed g.F.Feed.faults c.run_book.result (length o.config.sessions) c.args.feeds.now.items
+    (none_failed _ c.run_book.result (length o.config.sessions) c.args.feeds.now.items
     c.run_book.new.feeds.items many c.run_book.ensures.names c.run_book.ensures.feeds feeds)
     (λ failed. out (c.run_book.ensures.sink.rose failed)) in
     elim done [
       | inl is ↦ inl (c.status_of_end.ensures ∙ ap status_of_run is)
       | inr is ↦ inr (c.status_of_end.ensures ∙ ap status_of_run is)
     ]
+
+pub returns-clause-feeds : goal.returns-clause-feeds
+returns-clause-feeds g c =
+    each_by _ (λ s. c.run_book.result ≡ Err (ReadFault s)) _ c.args.feeds.now.items c.run_book.new.feeds.items
+    (λ s. (
+      λ is. c.status_of_end.ensures ∙ ap status_of_run is,
+      λ is. one_run_end c.run_book.result (Err (ReadFault s)) (sym c.status_of_end.ensures ∙ is),
+    ))
+    c.run_book.ensures.feeds

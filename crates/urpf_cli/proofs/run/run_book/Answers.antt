@@ -4,16 +4,21 @@ use Rattle.roa_irr.specs.Tables.{Table}
 use Rattle.router_config.specs.Settings.{Settings}
 use Rattle.control_core.specs.Controls.{IsOpened}
 use Rattle.urpf_cli.specs.PairTables.{pairs_in}
-use Rattle.urpf_cli.specs.RunText.{AreTotals}
+use Rattle.urpf_cli.specs.RunText.{AreTotals, steps_for}
 use Rattle.urpf_cli.specs.Runs.{NamesSession, run_limits}
 use Rattle.urpf_cli.specs.Steps.{lines_in}
+use Rattle.urpf_cli.proofs.Emptied.{empties_none}
 use Rattle.urpf_cli.proofs.Heads.{run_none}
 use Rattle.urpf_cli.proofs.RunOpened.{as_many}
 use Rattle.urpf_cli.proofs.run.run_book.Goals as goal
 
 pub returns-in-Err-clause-ran : goal.returns-in-Err-clause-ran
-returns-in-Err-clause-ran g c = λ run same tabled is told.
-    (run_none run (lines_in c.args.book.now) (g.K.Sink.held c.args.out.now), tt)
+returns-in-Err-clause-ran g c = λ run same tabled is told. (
+  run_none run (lines_in c.args.book.now) (g.K.Sink.held c.args.out.now),
+  tt,
+  empties_none run (steps_for run (lines_in c.args.book.now)) _ told,
+  tt,
+)
 
 pub run_control-requires-clause-slots : goal.run_control-requires-clause-slots
 run_control-requires-clause-slots g c =

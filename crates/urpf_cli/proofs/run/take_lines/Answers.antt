@@ -1,12 +1,13 @@
-use Rattle.std.proofs.Common.{◌∙◌, ℕ, Ok, Err, arith, length, map, refl, subst, sym, take}
+use Rattle.std.proofs.Common.{◌∙◌, ℕ, Ok, Err, arith, length, refl, subst, sym, take}
 use Rattle.std.proofs.lemmas.List.{length-map}
 use Rattle.runbook.specs.Book.{IsConfiguredFor}
 use Rattle.runbook.specs.declared.lines.BookLine.{BookLine}
 use Rattle.urpf_cli.specs.Places.{opening, place_after}
 use Rattle.urpf_cli.specs.Runs.{RanSteps}
+use Rattle.urpf_cli.specs.Slots.{slots_of}
 use Rattle.urpf_cli.specs.Steps.{lines_in, steps_in, steps_of}
 use Rattle.urpf_cli.proofs.Composing.{no_steps}
-use Rattle.urpf_cli.proofs.FeedFaults.{each_none, each_then, well_read}
+use Rattle.urpf_cli.proofs.FeedFaults.{each_by, each_none, each_then, well_read}
 use Rattle.urpf_cli.proofs.LinesTaken.{all_at, lines_all, lines_next, lines_stop}
 use Rattle.urpf_cli.proofs.run.take_lines.Goals as goal
 
@@ -14,14 +15,14 @@ pub loop-k-init : goal.loop-k-init
 loop-k-init g c = record {
   within = omega arith;
   ran = λ run s.
-      no_steps run (opening run.config.sessions) c.args.control.now 0 (map g.F.Feed.left c.args.feeds.now.items)
+      no_steps run (opening run.config.sessions) c.args.control.now 0 (slots_of (λ b. (goal.Feed-dyn g (b.vtable, b.value)).left b.value) c.args.feeds.now.items)
       (g.K.Sink.held c.args.out.now) s;
   serves = λ config serves. serves;
   peers = refl;
   edits = omega (arith, c.requires.edits);
   number = omega (arith, c.requires.number);
   rounds = omega arith;
-  feeds = each_none g.F.Feed.faults (λ s. ⊥) c.args.feeds.now.items (λ s never. never);
+  feeds = each_none _ (λ s. ⊥) c.args.feeds.now.items (λ s never. never);
   out = refl;
 }
 
@@ -42,18 +43,18 @@ returns-in-Err-clause-ran g c = λ run s.
       c.take_line.new.rounds,
       lines_stop run (opening run.config.sessions) sessions c.args.book.now c.loop-k.k c.line-line.result c.in-Err.fault
           c.loop-k.control c.take_line.new.control c.loop-k.rounds c.take_line.new.rounds
-          (map g.F.Feed.left c.loop-k.feeds.items) (map g.F.Feed.left c.take_line.new.feeds.items)
+          (slots_of (λ b. (goal.Feed-dyn g (b.vtable, b.value)).left b.value) c.loop-k.feeds.items) (slots_of (λ b. (goal.Feed-dyn g (b.vtable, b.value)).left b.value) c.take_line.new.feeds.items)
           (g.K.Sink.held c.args.out.now) (g.K.Sink.held c.loop-k.out) (g.K.Sink.held c.take_line.new.out)
           c.line-line.ensures ran
           (subst (λ (n : ℕ). RanSteps run place (steps_in n c.line-line.result.1) (Err c.in-Err.fault)
-          c.take_line.new.control c.take_line.new.rounds (map g.F.Feed.left c.take_line.new.feeds.items)
+          c.take_line.new.control c.take_line.new.rounds (slots_of (λ b. (goal.Feed-dyn g (b.vtable, b.value)).left b.value) c.take_line.new.feeds.items)
           (g.K.Sink.held c.loop-k.out) (g.K.Sink.held c.take_line.new.out)) c.loop-k.invariant.peers
           (c.in-Err.ensures.ran run place ran.1)),
     )
 
 pub returns-in-Err-clause-feeds : goal.returns-in-Err-clause-feeds
 returns-in-Err-clause-feeds g c =
-    each_then g.F.Feed.faults _ c.args.feeds.now.items c.loop-k.feeds.items c.take_line.new.feeds.items
+    each_then _ _ c.args.feeds.now.items c.loop-k.feeds.items c.take_line.new.feeds.items
     c.loop-k.invariant.feeds c.in-Err.ensures.feeds
 
 pub loop-k-preserved : goal.loop-k-preserved
@@ -69,11 +70,11 @@ loop-k-preserved g c =
           (opening run.config.sessions) in
           lines_next run (opening run.config.sessions) sessions c.args.book.now c.loop-k.k c.line-line.result
           c.loop-k.control c.take_line.new.control c.loop-k.rounds c.take_line.new.rounds
-          (map g.F.Feed.left c.loop-k.feeds.items) (map g.F.Feed.left c.take_line.new.feeds.items)
+          (slots_of (λ b. (goal.Feed-dyn g (b.vtable, b.value)).left b.value) c.loop-k.feeds.items) (slots_of (λ b. (goal.Feed-dyn g (b.vtable, b.value)).left b.value) c.take_line.new.feeds.items)
           (g.K.Sink.held c.args.out.now) (g.K.Sink.held c.loop-k.out) (g.K.Sink.held c.take_line.new.out)
           c.line-line.ensures ran
           (subst (λ (n : ℕ). RanSteps run place (steps_in n c.line-line.result.1) (Ok tt)
-          c.take_line.new.control c.take_line.new.rounds (map g.F.Feed.left c.take_line.new.feeds.items)
+          c.take_line.new.control c.take_line.new.rounds (slots_of (λ b. (goal.Feed-dyn g (b.vtable, b.value)).left b.value) c.take_line.new.feeds.items)
           (g.K.Sink.held c.loop-k.out) (g.K.Sink.held c.take_line.new.out)) c.loop-k.invariant.peers
           (c.in_default.ensures.ran run place ran.1));
       serves = λ config is. c.in_default.ensures.serves config (c.loop-k.invariant.serves config is);
@@ -81,9 +82,9 @@ loop-k-preserved g c =
       edits = omega (arith, c.in_default.ensures.counts.edits, c.loop-k.invariant.edits);
       number = omega (arith, c.in_default.ensures.counts.number, c.loop-k.invariant.number);
       rounds = omega (arith, c.in_default.ensures.rounds, c.loop-k.invariant.rounds);
-      feeds = each_then g.F.Feed.faults (λ s. ⊥) c.args.feeds.now.items c.loop-k.feeds.items
+      feeds = each_then _ (λ s. ⊥) c.args.feeds.now.items c.loop-k.feeds.items
           c.take_line.new.feeds.items c.loop-k.invariant.feeds
-          (well_read g.F.Feed.faults tt c.loop-k.feeds.items c.take_line.new.feeds.items c.in_default.ensures.feeds);
+          (well_read _ tt c.loop-k.feeds.items c.take_line.new.feeds.items c.in_default.ensures.feeds);
       out = c.in_default.ensures.sink.kept (λ failed. cc) ∙ c.loop-k.invariant.out;
     }
 
@@ -91,8 +92,13 @@ pub returns-clause-ran : goal.returns-clause-ran
 returns-clause-ran g c = λ run s. (
   c.loop-k.rounds,
   lines_all run (opening run.config.sessions) (length c.args.control.now.peers) c.args.book.now c.loop-k.k
-      c.loop-k.control c.loop-k.rounds (map g.F.Feed.left c.loop-k.feeds.items) (g.K.Sink.held c.args.out.now)
+      c.loop-k.control c.loop-k.rounds (slots_of (λ b. (goal.Feed-dyn g (b.vtable, b.value)).left b.value) c.loop-k.feeds.items) (g.K.Sink.held c.args.out.now)
       (g.K.Sink.held c.loop-k.out)
       (omega (arith, c.loop-k-test.false, c.len.ensures, length-map c.args.book.now (λ (r : ℕ × BookLine). r.1)))
       (c.loop-k.invariant.ran run s),
 )
+
+pub returns-clause-feeds : goal.returns-clause-feeds
+returns-clause-feeds g c =
+    each_by _ (λ s. ⊥) _ c.args.feeds.now.items c.loop-k.feeds.items (λ s. (λ never. absurd never, λ clash. cc))
+    c.loop-k.invariant.feeds

@@ -1,9 +1,10 @@
-use Rattle.std.proofs.Common.{◌≡◌, ◌-◌, ◌≤◌, Ok, length, map, take}
+use Rattle.std.proofs.Common.{◌≡◌, ◌-◌, ◌≤◌, Ok, length, take}
 use Rattle.router_config.specs.Settings.{Settings}
 use Rattle.control_core.specs.Worlds.{last_number}
 use Rattle.urpf_cli.specs.Inputs.{Run}
 use Rattle.urpf_cli.specs.Places.{opening}
 use Rattle.urpf_cli.specs.Runs.{CountEach, IsAt, RanSteps, Serves}
+use Rattle.urpf_cli.specs.Slots.{slots_of}
 use Rattle.urpf_cli.specs.Steps.{lines_in, steps_of}
 use Rattle.urpf_cli.proofs.run.take_lines.Given as goal
 
@@ -12,16 +13,16 @@ abbrev pub invariant-loop-k : goal.invariant-loop-k
 invariant-loop-k g l = record {
   within : l.k ≤ length l.book;
   ran : (run : Run)
-      → IsAt run (opening run.config.sessions) l.initial.control 0 (map g.F.Feed.left l.initial.feeds.items)
+      → IsAt run (opening run.config.sessions) l.initial.control 0 (slots_of (λ b. (goal.Feed-dyn g (b.vtable, b.value)).left b.value) l.initial.feeds.items)
       → RanSteps run (opening run.config.sessions)
       (steps_of (length l.initial.control.peers) (take l.k (lines_in l.book))) (Ok tt) l.control l.rounds
-      (map g.F.Feed.left l.feeds.items) (g.K.Sink.held l.initial.out) (g.K.Sink.held l.out);
+      (slots_of (λ b. (goal.Feed-dyn g (b.vtable, b.value)).left b.value) l.feeds.items) (g.K.Sink.held l.initial.out) (g.K.Sink.held l.out);
   serves : (config : Settings) → Serves config l.initial.control → Serves config l.control;
   peers : length l.control.peers ≡ length l.initial.control.peers;
   edits : l.control.edits ≤ l.k;
   number : last_number l.control.marks ≤ l.k;
   rounds : l.rounds ≤ l.k;
-  feeds : CountEach g.F.Feed.faults (λ s. ⊥) l.initial.feeds.items l.feeds.items;
+  feeds : CountEach (λ b. (goal.Feed-dyn g (b.vtable, b.value)).faults b.value) (λ s. ⊥) l.initial.feeds.items l.feeds.items;
   out : g.K.Sink.faults l.out ≡ g.K.Sink.faults l.initial.out;
 }
 

@@ -7,7 +7,7 @@ use Rattle.urpf_cli.proofs.run_line.pull.Goals as goal
 
 pub returns-clause-ran : goal.returns-clause-ran
 returns-clause-ran g c = λ run place rounds s.
-    pull_ran g.F.Feed.left run place c.args.session c.args.count c.pull.result c.args.control.now c.pull.new.self rounds
+    pull_ran _ run place c.args.session c.args.count c.pull.result c.args.control.now c.pull.new.self rounds
     c.args.feeds.now.items c.pull.new.feeds.items (g.K.Sink.held c.args.out.now) (g.K.Sink.held c.pull.new.out) s
     c.requires.session c.pull.ensures.pull
     (λ course peer gave more there now stands.
@@ -16,8 +16,8 @@ returns-clause-ran g c = λ run place rounds s.
 
 pub returns-clause-feeds : goal.returns-clause-feeds
 returns-clause-feeds g c =
-    each_of_one g.F.Feed.faults (λ s. c.pull.result ≡ Err (ReadFault s)) c.args.session c.args.feeds.now.items
+    each_of_one _ (λ s. c.pull.result ≡ Err (ReadFault s)) c.args.session c.args.feeds.now.items
     c.pull.new.feeds.items c.pull.ensures.feed
-    (pull_named g.F.Feed.left c.args.session c.args.count c.args.feeds.now.items c.pull.new.feeds.items
+    (pull_named _ c.args.session c.args.count c.args.feeds.now.items c.pull.new.feeds.items
     (g.K.Sink.held c.args.out.now) (g.K.Sink.held c.pull.new.out) c.pull.result c.args.control.now c.pull.new.self
     c.pull.ensures.pull (λ out. (c.pull.ensures.exhausted out).0))

@@ -1,6 +1,7 @@
-use Rattle.std.proofs.Common.{◌≡◌, ◌∙◌, ℕ, Ok, arith, length, map, refl, subst, sym}
+use Rattle.std.proofs.Common.{◌≡◌, ◌∙◌, ℕ, Ok, arith, length, refl, subst, sym}
 use Rattle.urpf_cli.specs.Places.{place_after}
 use Rattle.urpf_cli.specs.Runs.{RanSteps}
+use Rattle.urpf_cli.specs.Slots.{slots_of}
 use Rattle.urpf_cli.specs.Steps.{pulls_of}
 use Rattle.urpf_cli.proofs.Composing.{no_steps, pull_among, pulls_next}
 use Rattle.urpf_cli.proofs.FeedFaults.{each_by, each_none, each_then, well_read}
@@ -9,13 +10,13 @@ use Rattle.urpf_cli.proofs.run_line.pull_each.Goals as goal
 pub loop-session-init : goal.loop-session-init
 loop-session-init g c = record {
   ran = λ run place rounds s.
-      no_steps run place c.args.control.now rounds (map g.F.Feed.left c.args.feeds.now.items)
+      no_steps run place c.args.control.now rounds (slots_of (λ b. (goal.Feed-dyn g (b.vtable, b.value)).left b.value) c.args.feeds.now.items)
       (g.K.Sink.held c.args.out.now) s;
   serves = λ config serves. serves;
   peers = refl;
   edits = refl;
   number = refl;
-  feeds = each_none g.F.Feed.faults (λ s. ⊥) c.args.feeds.now.items (λ s never. never);
+  feeds = each_none _ (λ s. ⊥) c.args.feeds.now.items (λ s never. never);
   out = refl;
 }
 
@@ -23,8 +24,8 @@ pub returns-in-Err-clause-ran : goal.returns-in-Err-clause-ran
 returns-in-Err-clause-ran g c = λ run place rounds s.
     let ran = c.loop-session.invariant.ran run place rounds s in
     pull_among run place (length c.args.control.now.peers) c.loop-session.session c.args.count c.in-Err.fault
-    c.loop-session.control c.pull.new.control rounds rounds (map g.F.Feed.left c.loop-session.feeds.items)
-    (map g.F.Feed.left c.pull.new.feeds.items) (g.K.Sink.held c.args.out.now) (g.K.Sink.held c.loop-session.out)
+    c.loop-session.control c.pull.new.control rounds rounds (slots_of (λ b. (goal.Feed-dyn g (b.vtable, b.value)).left b.value) c.loop-session.feeds.items)
+    (slots_of (λ b. (goal.Feed-dyn g (b.vtable, b.value)).left b.value) c.pull.new.feeds.items) (g.K.Sink.held c.args.out.now) (g.K.Sink.held c.loop-session.out)
     (g.K.Sink.held c.pull.new.out)
     (omega (arith, c.loop-session-test.true, c.len-sessions.ensures, c.requires.slots, c.args.feeds.now.ok.0))
     ran
@@ -33,7 +34,7 @@ returns-in-Err-clause-ran g c = λ run place rounds s.
 
 pub returns-in-Err-clause-feeds : goal.returns-in-Err-clause-feeds
 returns-in-Err-clause-feeds g c =
-    each_then g.F.Feed.faults _ c.args.feeds.now.items c.loop-session.feeds.items c.pull.new.feeds.items
+    each_then _ _ c.args.feeds.now.items c.loop-session.feeds.items c.pull.new.feeds.items
     c.loop-session.invariant.feeds c.in-Err.ensures.feeds
 
 pub loop-session-preserved : goal.loop-session-preserved
@@ -44,7 +45,7 @@ loop-session-preserved g c =
       ran = λ run place rounds s.
           let ran = c.loop-session.invariant.ran run place rounds s in
           pulls_next run place c.loop-session.session c.args.count c.loop-session.control c.pull.new.control rounds
-          rounds (map g.F.Feed.left c.loop-session.feeds.items) (map g.F.Feed.left c.pull.new.feeds.items)
+          rounds (slots_of (λ b. (goal.Feed-dyn g (b.vtable, b.value)).left b.value) c.loop-session.feeds.items) (slots_of (λ b. (goal.Feed-dyn g (b.vtable, b.value)).left b.value) c.pull.new.feeds.items)
           (g.K.Sink.held c.args.out.now) (g.K.Sink.held c.loop-session.out) (g.K.Sink.held c.pull.new.out) ran
           (c.in_default.ensures.ran run
           (place_after run.inputs (pulls_of c.loop-session.session c.args.count) place) rounds ran.1);
@@ -52,9 +53,9 @@ loop-session-preserved g c =
       peers = serves.sessions ∙ sym c.requires.serves.1.sessions;
       edits = c.in_default.ensures.edits ∙ c.loop-session.invariant.edits;
       number = c.in_default.ensures.number ∙ c.loop-session.invariant.number;
-      feeds = each_then g.F.Feed.faults (λ s. ⊥) c.args.feeds.now.items c.loop-session.feeds.items
+      feeds = each_then _ (λ s. ⊥) c.args.feeds.now.items c.loop-session.feeds.items
           c.pull.new.feeds.items c.loop-session.invariant.feeds
-          (well_read g.F.Feed.faults tt c.loop-session.feeds.items c.pull.new.feeds.items c.in_default.ensures.feeds);
+          (well_read _ tt c.loop-session.feeds.items c.pull.new.feeds.items c.in_default.ensures.feeds);
       out = c.in_default.ensures.sink.kept (λ failed. cc) ∙ c.loop-session.invariant.out;
     }
 
@@ -70,10 +71,10 @@ returns-clause-ran g c = λ run place rounds s.
       c.args.feeds.now.ok.0,
     ) in
     subst (λ (n : ℕ). RanSteps run place (pulls_of n c.args.count) (Ok tt) c.loop-session.control rounds
-    (map g.F.Feed.left c.loop-session.feeds.items) (g.K.Sink.held c.args.out.now) (g.K.Sink.held c.loop-session.out))
+    (slots_of (λ b. (goal.Feed-dyn g (b.vtable, b.value)).left b.value) c.loop-session.feeds.items) (g.K.Sink.held c.args.out.now) (g.K.Sink.held c.loop-session.out))
     all (c.loop-session.invariant.ran run place rounds s)
 
 pub returns-clause-feeds : goal.returns-clause-feeds
 returns-clause-feeds g c =
-    each_by g.F.Feed.faults (λ s. ⊥) _ c.args.feeds.now.items c.loop-session.feeds.items
+    each_by _ (λ s. ⊥) _ c.args.feeds.now.items c.loop-session.feeds.items
     (λ s. (λ never. absurd never, λ clash. cc)) c.loop-session.invariant.feeds

@@ -1,9 +1,10 @@
-use Rattle.std.proofs.Common.{◌≡◌, ℕ, Ok, length, map}
+use Rattle.std.proofs.Common.{◌≡◌, ℕ, Ok, length}
 use Rattle.router_config.specs.Settings.{Settings}
 use Rattle.control_core.specs.Worlds.{last_number}
 use Rattle.urpf_cli.specs.Inputs.{Run}
 use Rattle.urpf_cli.specs.Places.{Place}
 use Rattle.urpf_cli.specs.Runs.{CountEach, IsAt, RanSteps, Serves}
+use Rattle.urpf_cli.specs.Slots.{slots_of}
 use Rattle.urpf_cli.specs.Steps.{pulls_of}
 use Rattle.urpf_cli.proofs.run_line.pull_each.Given as goal
 
@@ -11,13 +12,13 @@ use Rattle.urpf_cli.proofs.run_line.pull_each.Given as goal
 abbrev pub invariant-loop-session : goal.invariant-loop-session
 invariant-loop-session g l = record {
   ran : (run : Run) (place : Place) (rounds : ℕ)
-      → IsAt run place l.initial.control rounds (map g.F.Feed.left l.initial.feeds.items)
+      → IsAt run place l.initial.control rounds (slots_of (λ b. (goal.Feed-dyn g (b.vtable, b.value)).left b.value) l.initial.feeds.items)
       → RanSteps run place (pulls_of l.session l.count) (Ok tt) l.control rounds
-      (map g.F.Feed.left l.feeds.items) (g.K.Sink.held l.initial.out) (g.K.Sink.held l.out);
+      (slots_of (λ b. (goal.Feed-dyn g (b.vtable, b.value)).left b.value) l.feeds.items) (g.K.Sink.held l.initial.out) (g.K.Sink.held l.out);
   serves : (config : Settings) → Serves config l.initial.control → Serves config l.control;
   peers : length l.control.peers ≡ length l.initial.control.peers;
   edits : l.control.edits ≡ l.initial.control.edits;
   number : last_number l.control.marks ≡ last_number l.initial.control.marks;
-  feeds : CountEach g.F.Feed.faults (λ s. ⊥) l.initial.feeds.items l.feeds.items;
+  feeds : CountEach (λ b. (goal.Feed-dyn g (b.vtable, b.value)).faults b.value) (λ s. ⊥) l.initial.feeds.items l.feeds.items;
   out : g.K.Sink.faults l.out ≡ g.K.Sink.faults l.initial.out;
 }

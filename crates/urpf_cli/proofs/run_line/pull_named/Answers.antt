@@ -1,4 +1,4 @@
-use Rattle.std.proofs.Common.{map}
+use Rattle.urpf_cli.specs.Slots.{slots_of}
 use Rattle.urpf_cli.specs.Steps.{pull}
 use Rattle.urpf_cli.proofs.Composing.{one_step}
 use Rattle.urpf_cli.proofs.run_line.pull_named.Goals as goal
@@ -7,5 +7,5 @@ pub returns-in-Some-clause-ran : goal.returns-in-Some-clause-ran
 returns-in-Some-clause-ran g c = λ run place rounds s.
     rw c.in-Some.is
     (one_step run place (pull c.in-Some.session c.args.count) c.pull.result c.pull.new.control rounds
-    (map g.F.Feed.left c.pull.new.feeds.items) (g.K.Sink.held c.args.out.now) (g.K.Sink.held c.pull.new.out)
+    (slots_of _ c.pull.new.feeds.items) (g.K.Sink.held c.args.out.now) (g.K.Sink.held c.pull.new.out)
     (c.pull.ensures.ran run place rounds s))

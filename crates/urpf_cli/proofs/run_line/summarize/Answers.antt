@@ -1,11 +1,12 @@
 use Rattle.urpf_cli.specs.Steps.{summary}
+use Rattle.urpf_cli.proofs.Emptied.{emptied_at}
 use Rattle.urpf_cli.proofs.StepResults.{summary_gives}
 use Rattle.urpf_cli.proofs.Written.{step_ran}
 use Rattle.urpf_cli.proofs.run_line.summarize.Goals as goal
 
 pub returns-clause-ran : goal.returns-clause-ran
-returns-clause-ran g c = λ run place rounds lefts s.
-    step_ran run place summary c.put_summary.new.to c.offer.result c.args.control.now rounds lefts
+returns-clause-ran g c = λ run place rounds slots s.
+    step_ran run place summary c.put_summary.new.to c.offer.result c.args.control.now rounds slots
     (g.K.Sink.held c.args.out.now) (g.K.Sink.held c.offer.new.out)
-    (summary_gives run place c.args.control.now rounds lefts c.put_summary.new.to s c.put_summary.ensures) s
-    c.offer.ensures.ok c.offer.ensures.cut_short c.offer.ensures.err
+    (summary_gives run place c.args.control.now rounds slots c.put_summary.new.to s c.put_summary.ensures)
+    (emptied_at run place c.args.control.now rounds slots s) s c.offer.ensures.ok c.offer.ensures.cut_short c.offer.ensures.err

@@ -1,4 +1,4 @@
-use Rattle.std.proofs.Common.{map}
+use Rattle.urpf_cli.specs.Slots.{slots_of}
 use Rattle.urpf_cli.specs.Steps.{change, check, publish, round, summary}
 use Rattle.urpf_cli.proofs.Composing.{one_step}
 use Rattle.urpf_cli.proofs.run_line.take_line.Goals as goal
@@ -7,34 +7,34 @@ pub returns-in-Publish-clause-ran : goal.returns-in-Publish-clause-ran
 returns-in-Publish-clause-ran g c = λ run place s.
     rw c.in-Publish.is
     (one_step run place publish c.publish.result c.publish.new.control c.args.rounds.now
-    (map g.F.Feed.left c.args.feeds.now.items) (g.K.Sink.held c.args.out.now) (g.K.Sink.held c.publish.new.out)
-    (c.publish.ensures.ran run place c.args.rounds.now (map g.F.Feed.left c.args.feeds.now.items) s))
+    (slots_of _ c.args.feeds.now.items) (g.K.Sink.held c.args.out.now) (g.K.Sink.held c.publish.new.out)
+    (c.publish.ensures.ran run place c.args.rounds.now (slots_of _ c.args.feeds.now.items) s))
 
 pub returns-in-Round-clause-ran : goal.returns-in-Round-clause-ran
 returns-in-Round-clause-ran g c = λ run place s.
     rw c.in-Round.is
     (one_step run place round c.end_round.result c.args.control.now c.end_round.new.rounds
-    (map g.F.Feed.left c.args.feeds.now.items) (g.K.Sink.held c.args.out.now) (g.K.Sink.held c.end_round.new.out)
-    (c.end_round.ensures.ran run place c.args.control.now (map g.F.Feed.left c.args.feeds.now.items) s))
+    (slots_of _ c.args.feeds.now.items) (g.K.Sink.held c.args.out.now) (g.K.Sink.held c.end_round.new.out)
+    (c.end_round.ensures.ran run place c.args.control.now (slots_of _ c.args.feeds.now.items) s))
 
 pub returns-in-Check-clause-ran : goal.returns-in-Check-clause-ran
 returns-in-Check-clause-ran g c = λ run place s.
     rw c.in-Check.is
     (one_step run place (check c.in-Check.iface c.in-Check.addr) c.check.result c.args.control.now c.args.rounds.now
-    (map g.F.Feed.left c.args.feeds.now.items) (g.K.Sink.held c.args.out.now) (g.K.Sink.held c.check.new.out)
-    (c.check.ensures.ran run place c.args.rounds.now (map g.F.Feed.left c.args.feeds.now.items) s))
+    (slots_of _ c.args.feeds.now.items) (g.K.Sink.held c.args.out.now) (g.K.Sink.held c.check.new.out)
+    (c.check.ensures.ran run place c.args.rounds.now (slots_of _ c.args.feeds.now.items) s))
 
 pub returns-in-Change-clause-ran : goal.returns-in-Change-clause-ran
 returns-in-Change-clause-ran g c = λ run place s.
     rw c.in-Change.is
     (one_step run place (change c.in-Change.edit) c.change.result c.change.new.control c.args.rounds.now
-    (map g.F.Feed.left c.args.feeds.now.items) (g.K.Sink.held c.args.out.now) (g.K.Sink.held c.args.out.now)
-    (c.change.ensures.ran run place c.args.rounds.now (map g.F.Feed.left c.args.feeds.now.items)
+    (slots_of _ c.args.feeds.now.items) (g.K.Sink.held c.args.out.now) (g.K.Sink.held c.args.out.now)
+    (c.change.ensures.ran run place c.args.rounds.now (slots_of _ c.args.feeds.now.items)
     (g.K.Sink.held c.args.out.now) s))
 
 pub returns-in-Summary-clause-ran : goal.returns-in-Summary-clause-ran
 returns-in-Summary-clause-ran g c = λ run place s.
     rw c.in-Summary.is
     (one_step run place summary c.summarize.result c.args.control.now c.args.rounds.now
-    (map g.F.Feed.left c.args.feeds.now.items) (g.K.Sink.held c.args.out.now) (g.K.Sink.held c.summarize.new.out)
-    (c.summarize.ensures.ran run place c.args.rounds.now (map g.F.Feed.left c.args.feeds.now.items) s))
+    (slots_of _ c.args.feeds.now.items) (g.K.Sink.held c.args.out.now) (g.K.Sink.held c.summarize.new.out)
+    (c.summarize.ensures.ran run place c.args.rounds.now (slots_of _ c.args.feeds.now.items) s))

@@ -1,6 +1,7 @@
 //! The calls of a control of one session, over the plain engine and over one that wants memory.
 ghost use Rattle.std.specs.Prelude.{◌≡◌, ◌≤◌, length};
 ghost use Rattle.control_core.specs.declared.limits.TheConstants.{ITEM_LIMIT, OCTET_LIMIT};
+ghost use Rattle.control_core.specs.Controls.{IsOpened, without_pairs};
 ghost use Rattle.rpf_plain.specs.Engine.{new_engine};
 ghost use Rattle.rpf_plain.specs.World.{roles_of};
 
@@ -9,7 +10,7 @@ use control_core::{
     Control, ITEM_LIMIT, Limits, OCTET_LIMIT, RunFault, assigned_limits, cuts_do_not_count,
     items_of_a_front, one_list_of_items, one_more_update, one_rest, one_run,
 };
-use feed_io::MemFeed;
+use feed_io::BoxedFeed;
 use message_octets::{KEEPALIVE, OPEN, TWO_PREFIXES};
 use router_config::{Config, Edit, read_config};
 use rpf_plain::{PlainEngine, SetEngine};
@@ -35,12 +36,15 @@ struct Pulled {
     verdict: Verdict,
 }
 
+/// The limits of a run.
+pub const ASSIGNED: Limits = Limits {
+    items: ITEM_LIMIT,
+    octets: OCTET_LIMIT,
+};
+
 /// A full session, which has one route.
 const ONE_ROUTE: Pulled = Pulled {
-    limits: Limits {
-        items: ITEM_LIMIT,
-        octets: OCTET_LIMIT,
-    },
+    limits: ASSIGNED,
     events: FULL,
     result: Ok(()),
     text: "end 0 items 4 rest 0\n",
@@ -97,7 +101,7 @@ const TWO_ROUTES_IN_THE_ROOM_OF_ONE: Pulled = Pulled {
 };
 
 /// A configuration with one session, and an engine of its interfaces.
-fn configured(rt: &(impl Abort + AllocGlobal)) -> (Config, PlainEngine)
+pub fn configured(rt: &(impl Abort + AllocGlobal)) -> (Config, PlainEngine)
     ensures engine { result.1 ≡ new_engine (roles_of result.0.interfaces) }
     ensures sessions { length result.0.sessions ≡ 1 }
 {
@@ -110,13 +114,19 @@ fn configured(rt: &(impl Abort + AllocGlobal)) -> (Config, PlainEngine)
     (config, engine)
 }
 
-/// A list of this feed.
-fn only(rt: &(impl Abort + AllocGlobal), feed: MemFeed) -> Vec<MemFeed>
-    ensures { length result.items ≡ 1 }
+/// A control of the sessions over the engine, within these limits.
+pub fn opened<E: SetEngine>(
+    rt: &(impl Abort + AllocGlobal),
+    config: Config,
+    engine: E,
+    limits: Limits,
+) -> Control<E>
+    requires { E.state engine ≡ new_engine (roles_of config.interfaces) }
+    ensures opened { IsOpened (without_pairs config) limits result }
+    ensures sessions { length result.peers ≡ length config.sessions }
 {
-    let mut feeds = Vec::new(rt.alloc());
-    feeds.push(feed).expect(rt, "memory");
-    feeds
+    assert!(rt; limits.items <= ITEM_LIMIT && limits.octets <= OCTET_LIMIT);
+    Control::new(rt.alloc(), engine, config, limits).expect(rt, "memory")
 }
 
 /// That this comes of a control over the engine, once it took an edit that changes nothing.
@@ -124,14 +134,14 @@ fn comes<E: SetEngine>(rt: &(impl Abort + AllocGlobal), config: Config, engine: 
     requires engine { E.state engine ≡ new_engine (roles_of config.interfaces) }
     requires sessions { length config.sessions ≡ 1 }
 {
-    assert!(rt; row.limits.items <= ITEM_LIMIT && row.limits.octets <= OCTET_LIMIT);
     let iface = IfaceId::new(0).expect(rt, "an interface");
     assert!(rt; config.kind(iface).is_some());
-    let mut control = Control::new(rt.alloc(), engine, config, row.limits).expect(rt, "memory");
+    let mut control = opened(rt, config, engine, row.limits);
     let edit = Edit::Mode(iface, Mode::Feasible);
     control.edit(&edit).expect(rt, "memory");
     let mut out = sink(rt, &[]);
-    let mut feeds = only(rt, feed(rt, row.events, &[]));
+    let feed: BoxedFeed = Box::new(rt.alloc(), feed(rt, row.events, &[])).expect(rt, "memory");
+    let mut feeds = Vec::from_array(rt.alloc(), [Some(feed)]).expect(rt, "memory");
     let result = control.pull(&mut feeds, 0, None, &mut out);
     assert_eq!(rt; result, row.result);
     assert_eq!(rt; out.held(), row.text.as_bytes());

@@ -1,8 +1,8 @@
 //! Lines are offered to a sink whole, each in one write.
 ghost use Rattle.std.specs.Prelude.{None, ◌≡◌};
 
+use crate::tests::calling::{DONE, Run, Traced, status_of};
 use crate::tests::inputs::{Event, source, words};
-use crate::tests::offline::{DONE, Run, feeds, status_of};
 use message_octets::{ANNOUNCE, KEEPALIVE, OPEN};
 use std::alloc::Global;
 use std::process::Abort;
@@ -89,12 +89,18 @@ fn are_pieces(rt: &impl Abort, sink: &PieceSink, lines: &[&str]) {
     }
 }
 
+/// That the run over these sessions offers its lines whole.
+fn are_offered_whole(rt: &(impl Abort + AllocGlobal), traced: Traced) {
+    let mut out = PieceSink::new(rt.alloc());
+    let status = status_of(rt, &TWO_RESETS, traced, &mut out);
+    assert_eq!(rt; status, Status::Done);
+    are_pieces(rt, &out, LINES);
+}
+
 #[test]
 fn each_line_is_offered_whole_in_one_write(rt: HostRuntime) {
-    let mut out = PieceSink::new(rt.alloc());
-    let status = status_of(&rt, &TWO_RESETS, &mut feeds(&rt, &TWO_RESETS), &mut out);
-    assert_eq!(rt; status, Status::Done);
-    are_pieces(&rt, &out, LINES);
+    are_offered_whole(&rt, Traced::None);
+    are_offered_whole(&rt, Traced::Even);
 
     let mut session = source(&rt, &ANNOUNCE, &[]);
     let mut out = PieceSink::new(rt.alloc());

@@ -1,7 +1,7 @@
-//! Whole runs over sessions in memory: source sets by each mode, tables of pairs, and sessions that end
+//! Whole runs over given events: source sets by each mode, tables of pairs, and sessions that end
 //! by themselves.
+use crate::tests::calling::{DONE, Run, end};
 use crate::tests::inputs::{Event, FULL};
-use crate::tests::offline::{DONE, Run, end};
 use message_octets::{ANNOUNCE, KEEPALIVE, OPEN, OPEN_OF_64502, TWO_PREFIXES, WITHDRAW};
 
 /// An OPEN of AS 64499, a provider's.
@@ -294,6 +294,6 @@ session = [{interface = 0, peer_as = 64501, max_prefixes = 1}]
 ];
 
 #[test]
-fn runs_over_sessions_in_memory_write_their_whole_text(rt: HostRuntime) {
+fn runs_over_given_events_write_their_whole_text(rt: HostRuntime) {
     end(&rt, ROWS);
 }

@@ -1,6 +1,6 @@
 use Rattle.std.proofs.Common.{length, string_bytes, ap, arith}
 use Rattle.std.proofs.lemmas.List.{length-map}
-use Rattle.run_tests.proofs.tests.offline.is_over_a_long_table.Goals as goal
+use Rattle.run_tests.proofs.tests.long_tables.is_over_a_long_table.Goals as goal
 
 pub offline-ended-requires : goal.offline-ended-requires
 offline-ended-requires g c are = omega (

@@ -1,6 +1,6 @@
 use Rattle.std.proofs.Common.{length, string_bytes, ap, arith}
 use Rattle.std.proofs.lemmas.List.{length-map}
-use Rattle.run_tests.proofs.tests.offline.status_of.Goals as goal
+use Rattle.run_tests.proofs.tests.calling.status_over.Goals as goal
 
 pub offline-requires : goal.offline-requires
 offline-requires g c are = omega (

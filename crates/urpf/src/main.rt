@@ -1,30 +1,33 @@
-//! The program: makes the adapters over files and standard output that the words name, calls the
-//! command, and ends with its status.
+//! The program: makes the adapters over files and standard output, and the traces and generators
+//! that the words name, calls the command, and ends with its status.
 #![tactic(auto)]
 
-ghost use Rattle.std.specs.Prelude.{◌≡◌, IfOk, length};
+ghost use Rattle.std.specs.Prelude.{◌≡◌, IfOk};
 
-use feed_io::{FileSource, OutSink, TraceFeed};
+use feed_io::{BoxedFeed, FileSource, GenFeed, OutSink, TraceFeed, read_gen};
+use std::alloc::AllocError;
 use std::io::Write;
 use std::process::ExitCode;
 use std::rt::{Env, Files};
 use std::{env, io};
-use urpf_base::{Line, OutOfMemory, write_all};
+use urpf_base::{Line, write_all};
 use urpf_cli::{
     Command, PairsWord, Status, check_one, exit_code, feed_names, offline, put_status, read_command,
 };
 
 fn main(rt: HostRuntime) -> ExitCode {
-    let status = run(&rt);
+    let status = match run(rt) {
+        Ok(status) => status,
+        Err(AllocError) => Status::OutOfMemory,
+    };
     tell(rt.stderr(), &status);
     ExitCode::from(exit_code(&status))
 }
 
 /// Runs the command that the words ask for.
-fn run<R: AllocGlobal + Env + Files + Print>(rt: &R) -> Status {
-    let words = match words(rt) {
-        Ok(words) => words,
-        Err(status) => return status,
+fn run(rt: HostRuntime) -> Result<Status, AllocError> {
+    let Some(words) = words(&rt)? else {
+        return Ok(Status::Usage);
     };
     match read_command(&words) {
         Some(Command::Check { session, .. }) => check(rt, &words, session),
@@ -42,18 +45,14 @@ fn run<R: AllocGlobal + Env + Files + Print>(rt: &R) -> Status {
 }
 
 /// `check` over the file of this name.
-fn check<R: AllocGlobal + Files + Print>(rt: &R, words: &[String], session: &str) -> Status {
-    let mut session = FileSource::new(rt, session);
-    check_one(
-        rt.alloc(),
-        words,
-        &mut session,
-        &mut OutSink::new(io::writer(rt)),
-    )
+fn check(rt: HostRuntime, words: &[String], session: &str) -> Result<Status, AllocError> {
+    let mut session = file(rt, session)?;
+    let mut out = OutSink::new(io::writer(&rt));
+    Ok(check_one(rt.alloc(), words, &mut session, &mut out))
 }
 
-/// The name of the table of pairs. It is empty where there is none: then `offline` does not read it,
-/// and so no file is opened.
+/// The name of the table of pairs. It is empty where there is none: then `offline` does not read
+/// it, and so no file is opened.
 fn table_name(pairs: PairsWord<'_>) -> &str {
     match pairs {
         PairsWord::Table { name, .. } => name,
@@ -61,23 +60,28 @@ fn table_name(pairs: PairsWord<'_>) -> &str {
     }
 }
 
-/// `offline` over the files of these names, and the traces that the words name.
-fn run_book<'a, R: AllocGlobal + Files + Print>(
-    rt: &'a R,
-    words: &'a [String],
-    config: &'a str,
-    book: &'a str,
-    pairs: &'a str,
-) -> Status {
-    let mut feeds = match trace_feeds(rt, feed_names(words).sessions) {
-        Ok(feeds) => feeds,
-        Err(OutOfMemory) => return Status::OutOfMemory,
-    };
-    let mut config = FileSource::new(rt, config);
-    let mut book = FileSource::new(rt, book);
-    let mut pairs = FileSource::new(rt, pairs);
-    let mut out = OutSink::new(io::writer(rt));
-    offline(
+/// `offline` over the files of these names, and a feed for each session that the words name. The
+/// feeds go into their boxes here, since a function that handed a box out would hide what is in it.
+fn run_book(
+    rt: HostRuntime,
+    words: &[String],
+    config: &str,
+    book: &str,
+    pairs: &str,
+) -> Result<Status, AllocError> {
+    let mut feeds: Vec<Option<BoxedFeed>> = Vec::new(rt.alloc());
+    for word in feed_names(words).sessions {
+        let feed: BoxedFeed = match read_gen(word.as_bytes()) {
+            Some(spec) => Box::new(rt.alloc(), GenFeed::new(spec.seed, spec.count))?,
+            None => Box::new(rt.alloc(), TraceFeed::new(file(rt, word.as_str())?))?,
+        };
+        feeds.push(Some(feed))?;
+    }
+    let mut config = file(rt, config)?;
+    let mut book = file(rt, book)?;
+    let mut pairs = file(rt, pairs)?;
+    let mut out = OutSink::new(io::writer(&rt));
+    Ok(offline(
         rt.alloc(),
         words,
         &mut config,
@@ -85,40 +89,30 @@ fn run_book<'a, R: AllocGlobal + Files + Print>(
         &mut pairs,
         &mut feeds,
         &mut out,
-    )
+    ))
 }
 
-/// A feed over the trace of each of these names.
-fn trace_feeds<'a, R: AllocGlobal + Files>(
-    rt: &'a R,
-    names: &'a [String],
-) -> Result<Vec<TraceFeed<FileSource<'a, R>>>, OutOfMemory>
-    ensures { IfOk result (λ feeds. length feeds.items ≡ length names.now) }
+/// The file of this name.
+fn file(rt: HostRuntime, name: &str) -> Result<FileSource<HostRuntime>, AllocError>
+    ensures { IfOk result (λ file. file.path ≡ name.now) }
 {
-    let mut feeds = Vec::new(rt.alloc());
-    for name in names {
-        let feed = TraceFeed::new(FileSource::new(rt, name.as_str()));
-        let Ok(()) = feeds.push(feed) else {
-            return Err(OutOfMemory);
-        };
-    }
-    Ok(feeds)
+    let name = String::from_str(rt.alloc(), name)?;
+    Ok(FileSource::new(rt, name))
 }
 
-/// The words after the program's name. Words that are no UTF-8 fit no form of a command.
-fn words<R: AllocGlobal + Env>(rt: &R) -> Result<Vec<String>, Status> {
+/// The words after the program's name. None where one is no UTF-8: such words fit no form of a
+/// command.
+fn words<R: AllocGlobal + Env>(rt: &R) -> Result<Option<Vec<String>>, AllocError> {
     let mut words = Vec::new(rt.alloc());
     match env::args(rt) {
         Ok(args) => {
             for word in args.skip(1) {
-                if words.push(word).is_err() {
-                    return Err(Status::OutOfMemory);
-                }
+                words.push(word)?;
             }
-            Ok(words)
+            Ok(Some(words))
         }
-        Err(error) if error.kind() == io::ErrorKind::OutOfMemory => Err(Status::OutOfMemory),
-        Err(_) => Err(Status::Usage),
+        Err(error) if error.kind() == io::ErrorKind::OutOfMemory => Err(AllocError),
+        Err(_) => Ok(None),
     }
 }
 

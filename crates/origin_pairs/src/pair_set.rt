@@ -55,6 +55,7 @@ impl PairSet {
         ensures added { result ≡ Ok true → HasOneMore (prefix.now, asn) self.old self.new }
         ensures there { result ≡ Ok false → Has self.old (prefix.now, asn) × (self.new ≡ self.old) }
         ensures err { OnErr result (self.new ≡ self.old) }
+        ensures absent { OnErr result (¬ Has self.old (prefix.now, asn)) }
     {
         match packed(prefix, asn) {
             PackedPair::Short(pair) => insert_into(&mut self.short, pair),
@@ -86,13 +87,14 @@ impl PairSet {
     }
 }
 
-/// Adds a pair to the set of its family. Whether it is new.
+/// Adds a pair to the set of its family. Whether it is new. A refusal comes only where it is.
 fn insert_into<K: Ord + Copy>(set: &mut BTreeSet<K>, pair: K) -> Result<bool, OutOfMemory>
     ensures added { result ≡ Ok true → (contains K.cmp set.old pair ≡ false)
         × (set.new.keys ≡ insert_key K.cmp set.old.keys pair) }
     ensures there { result ≡ Ok false → (contains K.cmp set.old pair ≡ true)
         × (set.new.keys ≡ set.old.keys) }
     ensures err { OnErr result (set.new.keys ≡ set.old.keys) }
+    ensures absent { OnErr result (contains K.cmp set.old pair ≡ false) }
     ensures ordered { IsOrdered K.cmp set.new }
 {
     let Ok(added) = set.insert(pair) else {

@@ -1,9 +1,9 @@
 -- Of each length one prefix alone covers an address.
-use Rattle.std.proofs.Common.{◌≡◌, ℕ, ◌+◌, ◌<◌, ◌≤◌, ◌*◌, ◌^◌, inl, inr, List, [], ◌∷◌, map, Option, Some, None, sym}
+use Rattle.std.proofs.Common.{◌≡◌, ℕ, ◌+◌, ◌≤◌, ◌*◌, ◌^◌, inl, inr, List, [], ◌∷◌, map, Option, Some, None, sym}
 use Rattle.std.proofs.Common.{ap, subst, ◌∙◌, arith}
 use Rattle.std.specs.Option.{IsSome}
 use Rattle.std.specs.FinMap.{entries, keys, get}
-use Rattle.urpf_base.specs.Address.{Block, Covers, FirstBitsAgree, block_of, cleared, width_of}
+use Rattle.urpf_base.specs.Address.{Block, Covers, block_of, cleared, width_of}
 use Rattle.urpf_base.specs.Lists.{Has}
 use Rattle.urpf_base.specs.declared.address.Addr.{Addr}
 use Rattle.urpf_base.specs.declared.address.Addr.TheVariants.{V4, V6}
@@ -86,8 +86,8 @@ module _ {V : Type 0} where
       never None some is = absurd cc
       never (Some v) some is = absurd cc
 
-  -- the prefix of one length is there, and so one that covers the address
-  pub one_covers : (m : Mapped V) (addr : Addr) (len : ℕ) → len ≤ width_of addr → IsSome (get m (block_of len addr))
-      → (p : Block) × Has (keys m) p × Covers p addr
-  one_covers m addr len within some =
-      (block_of len addr, (has_held m (block_of len addr)).1 some, covers_own len addr within)
+  -- the prefix of one length has a value, and so it is there and covers the address
+  pub own_covers : (m : Mapped V) (addr : Addr) (len : ℕ) → len ≤ width_of addr → IsSome (get m (block_of len addr))
+      → Has (keys m) (block_of len addr) × Covers (block_of len addr) addr
+  own_covers m addr len within some =
+      ((has_held m (block_of len addr)).1 some, covers_own len addr within)

@@ -1,5 +1,5 @@
 -- What holds of every map from prefixes: its lists have what it has, each prefix once, in order.
-use Rattle.std.proofs.Common.{◌≡◌, ℕ, true, cond, List, [], ◌∷◌, map, length, arith, Option, Some, None, refl, sym, ap}
+use Rattle.std.proofs.Common.{◌≡◌, true, cond, List, [], ◌∷◌, map, length, arith, Some, None, refl, sym, ap}
 use Rattle.std.proofs.Common.{subst, ◌∙◌, ◌↔◌}
 use Rattle.std.specs.Option.{IsSome}
 use Rattle.std.specs.declared.cmp.Ordering.TheVariants.{Less}

@@ -1,6 +1,6 @@
 -- Two lists of pairs joined into one: each change and each question of a half is that of both joined.
-use Rattle.std.proofs.Common.{◌≡◌, ℕ, ◌+◌, Bool, true, false, cond, not, ◌&&◌, T, List, [], ◌∷◌, ◌++◌, map, length}
-use Rattle.std.proofs.Common.{refl, sym, ap, subst, ◌∙◌, Option, Some, None}
+use Rattle.std.proofs.Common.{◌≡◌, ◌+◌, Bool, true, false, cond, not, ◌&&◌, List, [], ◌∷◌, ◌++◌, length}
+use Rattle.std.proofs.Common.{refl, sym, ap, ◌∙◌, Some, None}
 use Rattle.std.specs.declared.cmp.Ordering.{Ordering}
 use Rattle.std.specs.declared.cmp.Ordering.TheVariants.{Less, Equal, Greater}
 use Rattle.std.specs.Ordering.{is_eq, is_lt, eq_by_cmp, match_ordering}
@@ -65,11 +65,11 @@ module _ {A K X : Type 0} (R : K → K → Ordering) (f : A → K) where
   below-under x [] = refl
   below-under x (e ∷ es) = ap (λ b. is_lt (R (f x) (f e.0)) && b) (below-under x es)
 
-  sorted-under : (es : List (A × X)) → is_sorted R (under f es) ≡ is_sorted (on R f) es
+  pub sorted-under : (es : List (A × X)) → is_sorted R (under f es) ≡ is_sorted (on R f) es
   sorted-under [] = refl
   sorted-under (e ∷ es) = λ i. below-under e.0 es i && sorted-under es i
 
-  find-under : (q : A) (es : List (A × X)) → find R (f q) (under f es) ≡ find (on R f) q es
+  pub find-under : (q : A) (es : List (A × X)) → find R (f q) (under f es) ≡ find (on R f) q es
   find-under q [] = refl
   find-under q (e ∷ es) = ap (cond (is_eq (R (f q) (f e.0))) (Some e.1)) (find-under q es)
 

@@ -1,3 +1,4 @@
+pub mod Built
 pub mod Covering
 pub mod Halves
 pub mod Held

@@ -1,19 +1,16 @@
 -- Two lists side by side: what comes first, what is found at a prefix, and that the prefixes ascend.
-use Rattle.std.proofs.Common.{◌≡◌, Bool, true, false, cond, ◌&&◌, List, [], ◌∷◌, ◌++◌, refl, sym, ap, subst, ◌∙◌}
+use Rattle.std.proofs.Common.{◌≡◌, true, List, [], ◌∷◌, ◌++◌, refl, sym, subst, ◌∙◌}
 use Rattle.std.proofs.Common.{Option, Some, None}
-use Rattle.std.specs.declared.cmp.Ordering.{Ordering}
 use Rattle.std.specs.declared.cmp.Ordering.TheVariants.{Less, Equal, Greater}
-use Rattle.std.specs.Ordering.{is_eq, is_gt, is_lt, eq_by_cmp, ordering_reverse}
-use Rattle.std.specs.Cmp.{tied_itself}
+use Rattle.std.specs.Ordering.{is_gt}
 use Rattle.std.specs.List.{AllByRecursion, filter}
 use Rattle.std.specs.Option.{MatchOption}
 use Rattle.std.specs.FinMap.{find, is_sorted}
-use Rattle.std.specs.FinMap.Entries.{find-where_key, find_tied, is_sorted-where_key}
 use Rattle.urpf_base.specs.Address.{Block}
 use Rattle.urpf_base.specs.Order.{prefix_order}
-use Rattle.prefix_map.specs.Beside.{beside, either, led_by, right_alone}
+use Rattle.prefix_map.specs.Beside.{beside, led_by, right_alone}
 use Rattle.prefix_map.proofs.Order.{prefix_total}
-use Rattle.prefix_map.proofs.Sorted.{head_below, tail_sorted, filter_all}
+use Rattle.prefix_map.proofs.Sorted.{head_below, filter_all}
 
 -- the pair that a walk gives leads those behind it
 pub led : {X : Type 0} (r : Option X) (all later : List X)

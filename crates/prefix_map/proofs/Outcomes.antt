@@ -1,5 +1,4 @@
 -- What a result tells, carried to another fact.
-use Rattle.std.proofs.Common.{◌≡◌, Option, Some, None, ◌∙◌}
 use Rattle.std.specs.Prelude.{Result, Ok, Err, IfOk, OnOk, OnErr}
 
 pub on_ok : {T E P Q : Type 0} (r : Result T E) → OnOk r P → (P → Q) → OnOk r Q

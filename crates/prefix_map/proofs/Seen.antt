@@ -1,11 +1,10 @@
 -- What is asked of a half of the kept pairs, and done to it, is asked of the finite map and done to it.
-use Rattle.std.proofs.Common.{◌≡◌, ℕ, ◌+◌, ◌<◌, ◌^◌, Bool, true, false, cond, not, ◌&&◌, T, lit<, List, [], ◌∷◌, length}
+use Rattle.std.proofs.Common.{◌≡◌, ℕ, ◌+◌, ◌<◌, ◌^◌, Bool, true, false, cond, not, ◌&&◌, T, lit<, List, [], length}
 use Rattle.std.proofs.Common.{refl, sym, ap, subst, ◌∙◌, Option, None, arith}
-use Rattle.std.specs.Bool.{IsTrue}
 use Rattle.std.specs.declared.cmp.Ordering.{Ordering}
 use Rattle.std.specs.declared.cmp.Ordering.TheVariants.{Less, Greater}
 use Rattle.std.specs.Ordering.{is_eq, eq_by_cmp, nat_cmp}
-use Rattle.std.specs.Cmp.{IsTotalOrder, on_total, eq_by_cmp_equiv, alike_right}
+use Rattle.std.specs.Cmp.{on_total, eq_by_cmp_equiv, alike_right}
 use Rattle.std.specs.List.{filter}
 use Rattle.std.specs.List.Sorted.{IsStrictlySortedBy}
 use Rattle.std.specs.Map.{keys_of, lookup, remove_entry}
@@ -14,7 +13,7 @@ use Rattle.std.specs.BTreeMap.Range.{is_from_start}
 use Rattle.std.specs.declared.ops.Bound.{Bound}
 use Rattle.std.specs.FinMap as finite
 use Rattle.std.specs.FinMap.{find, put, is_sorted, entries, entries-from_sorted, entries-insert, entries_sorted}
-use Rattle.std.specs.FinMap.{get-entries, get-remove, same_map, same_entries_map, len-entries, len-empty, empty_of_len}
+use Rattle.std.specs.FinMap.{get-entries, get-remove, same_map, same_entries_map, len-entries, empty_of_len}
 use Rattle.std.specs.FinMap.Entries.{find-where_key}
 use Rattle.urpf_base.specs.Address.{Block}
 use Rattle.urpf_base.specs.Order.{prefix_order}

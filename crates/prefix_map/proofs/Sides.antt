@@ -1,5 +1,5 @@
 -- Two lists side by side: what is found at a prefix, and that the prefixes ascend.
-use Rattle.std.proofs.Common.{◌≡◌, Bool, true, false, cond, ◌&&◌, T, List, [], ◌∷◌, ◌++◌, map, refl, sym, ap, subst}
+use Rattle.std.proofs.Common.{◌≡◌, Bool, true, false, cond, T, List, [], ◌∷◌, ◌++◌, map, refl, sym, ap, subst}
 use Rattle.std.proofs.Common.{◌∙◌, ◌↔◌, Option, Some, None}
 use Rattle.std.specs.declared.cmp.Ordering.{Ordering}
 use Rattle.std.specs.declared.cmp.Ordering.TheVariants.{Less, Equal, Greater}
@@ -7,7 +7,7 @@ use Rattle.std.specs.Ordering.{is_eq, is_gt, is_lt, eq_by_cmp, ordering_reverse}
 use Rattle.std.specs.Cmp.{alike_right}
 use Rattle.std.specs.List.{AllByRecursion, filter}
 use Rattle.std.specs.FinMap.{entries, find, get, get-entries, is_sorted}
-use Rattle.std.specs.FinMap.Entries.{below_all, find-where_key, find_tied, is_sorted-where_key, where_key}
+use Rattle.std.specs.FinMap.Entries.{below_all, find-where_key, find_tied, is_sorted-where_key}
 use Rattle.urpf_base.specs.Address.{Block}
 use Rattle.urpf_base.specs.Lists.{Has}
 use Rattle.urpf_base.specs.Order.{prefix_order}

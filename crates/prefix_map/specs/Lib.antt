@@ -1,4 +1,5 @@
 pub mod Beside
+pub mod Built
 pub mod Kept
 pub mod Keys
 pub mod Mapped

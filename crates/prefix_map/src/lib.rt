@@ -6,6 +6,7 @@
 #![tactic(auto)]
 
 mod beside;
+mod builder;
 mod families;
 mod keys;
 mod laws;
@@ -13,6 +14,7 @@ mod map;
 mod pairs;
 
 pub use beside::Beside;
+pub use builder::PrefixMapBuilder;
 pub use laws::{beside_laws, map_laws, order_laws};
 pub use map::PrefixMap;
 pub use pairs::Pairs;

@@ -1,5 +1,5 @@
 //! The map: pairs go in and come out by their prefix, and a walk gives them in order.
-ghost use Rattle.std.specs.Prelude.{◌≡◌, ◌↔◌, ◌<◌, ◌≤◌, ◌+◌, ◌^◌, Some, None, IsSome, IfOk, OnOk, OnErr, IsTrue};
+ghost use Rattle.std.specs.Prelude.{◌≡◌, ◌↔◌, ◌<◌, ◌≤◌, ◌+◌, ◌^◌, Some, None, IsSome, IfOk, OnOk, OnErr, IsTrue, false};
 ghost use Rattle.std.specs.Prelude.{length, option_copied};
 ghost use Rattle.urpf_base.specs.Address.{Block, Covers, block_of, width_of};
 ghost use Rattle.urpf_base.specs.Lists.{Has};
@@ -19,13 +19,13 @@ use std::sync::ledger::Ledger;
 use urpf_base::{Addr, OutOfMemory, Prefix, Steps};
 
 /// The most pairs that a map comes to hold.
-const PAIRS_MOST: usize = 0x7FFF_FFFF_FFFF_FFFF;
+pub(crate) const PAIRS_MOST: usize = 0x7FFF_FFFF_FFFF_FFFF;
 
 /// A value for each of finitely many prefixes.
 #[derive(Drop)]
 pub struct PrefixMap<V: Copy> {
-    short: BTreeMap<ShortKey, V>,
-    long: BTreeMap<LongKey, V>,
+    pub(crate) short: BTreeMap<ShortKey, V>,
+    pub(crate) long: BTreeMap<LongKey, V>,
 }
 
 impl<V: Copy> Model for PrefixMap<V> {
@@ -140,6 +140,10 @@ impl<V: Copy> PrefixMap<V> {
         ensures covers { IsTrue result ↔ ((p : Block) × Has (map.keys self.now) p × Covers p addr.now) }
         ensures bound { steps.new ≤ steps.old + width_of addr.now + 1 }
         ensures up { steps.old ≤ steps.new }
+        // Each look is counted: one for each length up to that of a prefix that covers, or for all.
+        ensures some { IsTrue result → (p : Block) × Has (map.keys self.now) p × Covers p addr.now
+            × (steps.new ≡ steps.old + p.len + 1) }
+        ensures all { result ≡ false → steps.new ≡ steps.old + width_of addr.now + 1 }
     {
         let _ = &self.short;
         let addr = *addr;

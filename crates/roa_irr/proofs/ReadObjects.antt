@@ -5,7 +5,7 @@ use Rattle.std.specs.Prelude.{option_map, IfSome}
 use Rattle.std.specs.List.{AllZip, onto_first, slice_split}
 use Rattle.origin_pairs.specs.Pairs.{Pair}
 use Rattle.roa_irr.specs.declared.pairs.Outcome.{Outcome}
-use Rattle.roa_irr.specs.Irr.{IsIrrTable, ObjectComesTo, OpensTooManyObjects}
+use Rattle.roa_irr.specs.Irr.{IsIrrTable, ObjectComesTo, OpensPair, OpensTooManyObjects}
 use Rattle.roa_irr.specs.Lines.{is_empty, lines_of, objects_of}
 use Rattle.roa_irr.specs.Steps.{before_empty, behind_empty}
 use Rattle.roa_irr.specs.Tables.{IsOnly, Table, pairs_max, pairs_of, skipped_of, table_of}
@@ -150,44 +150,58 @@ objects-only text table other r is =
     (sym (front.2 ∙ ap (λ os. table.pairs ++ pairs_of os) no_after ∙ append-nil table.pairs))
     (let e = front.3 in let n = ap skipped_of no_after in omega arith)
 
--- where there is no room for the pair of the next object, the text has too many
+-- the objects that were read and the next one
 module _ (text : List ℕ) (rest : Bor (List ℕ)) (more : Option (Bor (List ℕ))) (table : Table) (one : Outcome)
     (r : IsReadTo text (Some rest) table) (is : IsOnly ObjectComesTo (before_empty (lines_of rest.now)) one)
-    (behind : option_map (λ r. lines_of r.now) more ≡ behind_empty (lines_of rest.now))
-    (many : pairs_max < length table.pairs + length (pairs_of (one ∷ []))) where
-  after_one : IsOnly ObjectComesTo (before_empty (lines_of rest.now)) one
-      → objects_of text ≡ (r.objects ++ before_empty (lines_of rest.now) ∷ []) ++ left_objects more
-  after_one is =
+    (behind : option_map (λ r. lines_of r.now) more ≡ behind_empty (lines_of rest.now)) where
+  abbrev with_next : Objects
+  with_next = r.objects ++ before_empty (lines_of rest.now) ∷ []
+
+  after_one : objects_of text ≡ with_next ++ left_objects more
+  after_one =
       r.opens ∙ ap (λ o. r.objects ++ o) (objects_of-first rest.now more behind)
       ∙ sym (append_assoc r.objects (before_empty (lines_of rest.now) ∷ []) (left_objects more))
 
-  long : pairs_max < length (pairs_of (r.outcomes ++ one ∷ []))
-  long =
+  come : AllZip (IsOnly ObjectComesTo) with_next (r.outcomes ++ one ∷ [])
+  come = zip_more ObjectComesTo r.objects r.outcomes (before_empty (lines_of rest.now)) one r.each is
+
+  pairs_with : length (pairs_of (r.outcomes ++ one ∷ [])) ≡ length table.pairs + length (pairs_of (one ∷ []))
+  pairs_with =
       let sum = length-append (pairs_of r.outcomes) (pairs_of (one ∷ [])) in
       let whole = ap (λ (ps : List Pair). length ps) (pairs_of-append r.outcomes (one ∷ [])) in
       let same = ap (λ (ps : List Pair). length ps) r.pairs in
       omega arith
 
-  pub objects-many : OpensTooManyObjects text
-  objects-many = record {
-    objects = r.objects ++ before_empty (lines_of rest.now) ∷ [];
+  -- where the next one gives a pair, some of them do
+  pub objects-pair : 0 < length (pairs_of (one ∷ [])) → OpensPair text
+  objects-pair pair = record {
+    objects = with_next;
     more = left_objects more;
     outcomes = r.outcomes ++ one ∷ [];
-    opens = after_one is;
-    each = zip_found ObjectComesTo (r.objects ++ before_empty (lines_of rest.now) ∷ []) (r.outcomes ++ one ∷ [])
-        (zip_more ObjectComesTo r.objects r.outcomes (before_empty (lines_of rest.now)) one r.each is);
-    many = long;
+    opens = after_one;
+    each = zip_found ObjectComesTo with_next (r.outcomes ++ one ∷ []) come;
+    some = let all = pairs_with in omega arith;
   }
 
-  pub objects-too_many : (other : Table) → IsIrrTable text other → pairs_max < length other.pairs
-  objects-too_many other of =
-      let all = zip_begins ObjectComesTo (r.objects ++ before_empty (lines_of rest.now) ∷ []) (left_objects more)
-      (r.outcomes ++ one ∷ []) of.outcomes
-      (zip_more ObjectComesTo r.objects r.outcomes (before_empty (lines_of rest.now)) one r.each is)
-      (subst (λ o. AllZip ObjectComesTo o of.outcomes) (after_one is) of.each) in
+  -- where there is no room for its pair, the text has too many
+  pub objects-many : pairs_max < length table.pairs + length (pairs_of (one ∷ [])) → OpensTooManyObjects text
+  objects-many many = record {
+    objects = with_next;
+    more = left_objects more;
+    outcomes = r.outcomes ++ one ∷ [];
+    opens = after_one;
+    each = zip_found ObjectComesTo with_next (r.outcomes ++ one ∷ []) come;
+    many = let all = pairs_with in omega arith;
+  }
+
+  pub objects-too_many : pairs_max < length table.pairs + length (pairs_of (one ∷ [])) → (other : Table)
+      → IsIrrTable text other → pairs_max < length other.pairs
+  objects-too_many many other of =
+      let all = zip_begins ObjectComesTo with_next (left_objects more) (r.outcomes ++ one ∷ []) of.outcomes come
+      (subst (λ o. AllZip ObjectComesTo o of.outcomes) after_one of.each) in
       let same = ap (λ t. length t.pairs) of.value in
       let parts = ap (λ (os : List Outcome). length (pairs_of os)) all.1 in
       let whole = ap (λ (ps : List Pair). length ps) (pairs_of-append (r.outcomes ++ one ∷ []) all.0) in
       let sum = length-append (pairs_of (r.outcomes ++ one ∷ [])) (pairs_of all.0) in
-      let less = long in
+      let less = pairs_with in
       omega arith

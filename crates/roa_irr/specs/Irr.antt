@@ -62,3 +62,12 @@ pub record OpensTooManyObjects (text : List ℕ) : Type 0 where
   pub opens : objects_of text ≡ objects ++ more
   pub each : AllZip ObjectComesTo objects outcomes
   pub many : pairs_max < length (pairs_of outcomes)
+
+-- some objects, the first of the text, give a pair
+pub record OpensPair (text : List ℕ) : Type 0 where
+  pub objects : List (List (List ℕ))
+  pub more : List (List (List ℕ))
+  pub outcomes : List Outcome
+  pub opens : objects_of text ≡ objects ++ more
+  pub each : AllZip ObjectComesTo objects outcomes
+  pub some : 0 < length (pairs_of outcomes)

@@ -7,7 +7,7 @@
 //! number, and a `route6` object (RFC 4012, section 3) where it is a prefix of IPv6. One of these
 //! classes that gives no pair is skipped and counted. Objects of other classes are ignored.
 ghost use Rattle.std.specs.Prelude.{◌≡◌, ◌⊎◌, ◌^◌, ◌<◌, ◌≤◌, IfOk, length, Ok, Err};
-ghost use Rattle.roa_irr.specs.Irr.{IsIrrTable, OpensTooManyObjects};
+ghost use Rattle.roa_irr.specs.Irr.{IsIrrTable, OpensPair, OpensTooManyObjects};
 ghost use Rattle.roa_irr.specs.Tables.{Table, pairs_max};
 
 use crate::objects::read_object;
@@ -25,6 +25,8 @@ pub fn read_irr(alloc: Global, text: &[u8]) -> Result<Pairs, PairsFault>
     ensures many { result ≡ Err PairsFault.TooMany → OpensTooManyObjects text.now }
     ensures too_many { (table : Table) → IsIrrTable text.now table → pairs_max < length table.pairs
         → (result ≡ Err PairsFault.TooMany) ⊎ (result ≡ Err PairsFault.OutOfMemory) }
+    // Memory can run out only for a pair.
+    ensures memory { result ≡ Err PairsFault.OutOfMemory → OpensPair text.now }
 {
     let mut pairs = Pairs::new(alloc);
     let mut left = Some(text);

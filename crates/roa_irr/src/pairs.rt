@@ -83,6 +83,7 @@ impl Pairs {
     }
 
     /// Adds what one more record comes to. TooMany where it is a pair and there is no room for it.
+    /// Memory is taken for a pair alone.
     pub(crate) fn add(&mut self, outcome: Outcome) -> Result<(), PairsFault>
         requires few { self.old.skipped + 1 < 2 ^ 64 }
         requires room { length self.old.pairs ≤ pairs_max }
@@ -91,6 +92,7 @@ impl Pairs {
         ensures fits { OnOk result (length self.new.pairs ≤ pairs_max) }
         ensures too_many { result ≡ Err PairsFault.TooMany
             → pairs_max < length self.old.pairs + length (pairs_of (outcome ∷ [])) }
+        ensures memory { result ≡ Err PairsFault.OutOfMemory → 0 < length (pairs_of (outcome ∷ [])) }
     {
         match outcome {
             Outcome::Pair(prefix, origin) => self.push(&prefix, origin),

@@ -1,4 +1,5 @@
 pub mod Ascending
+pub mod Blank
 pub mod Configured
 pub mod Found
 pub mod Views

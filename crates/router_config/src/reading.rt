@@ -1,6 +1,7 @@
 //! Reading a configuration: the octets of a text come in, and what it configures goes out, or the
 //! first rule that it breaks.
 ghost use Rattle.std.specs.Prelude.{◌≡◌, ◌⊎◌, IfOk, IfErr, Ok, Err, None, Some};
+ghost use Rattle.toml.specs.Errors.{IsBlank};
 ghost use Rattle.toml.specs.View.{view};
 ghost use Rattle.router_config.specs.Configured.{AreConfigured};
 ghost use Rattle.router_config.specs.Rules.{first_broken, rules};
@@ -25,6 +26,8 @@ pub fn read_config(alloc: Global, text: &[u8]) -> Result<Config, ReadConfig>
         → (result ≡ Ok config) ⊎ (result ≡ Err ReadConfig.OutOfMemory) }
     ensures only_bad { (fault : ConfigFault) → IsRefused text.now fault
         → (result ≡ Err (ReadConfig.Bad fault)) ⊎ (result ≡ Err ReadConfig.OutOfMemory) }
+    // Memory can run out only for a text that is more than blanks and comments.
+    ensures memory { result ≡ Err ReadConfig.OutOfMemory → ¬ (IsBlank text.now) }
 {
     let error = match toml::table_from_slice(alloc, text) {
         Ok(table) => return read_document(alloc, &Value::Table(table)),
@@ -47,6 +50,7 @@ fn read_document(alloc: Global, document: &Value) -> Result<Config, ReadConfig>
         → first_broken (rules (view document.now)) ≡ Some fault }
     ensures only { (fault : ConfigFault) → first_broken (rules (view document.now)) ≡ Some fault
         → result ≡ Err (ReadConfig.Bad fault) }
+    ensures memory { result ≡ Err ReadConfig.OutOfMemory → first_broken (rules (view document.now)) ≡ None }
 {
     if let Some(fault) = first_fault(document) {
         return Err(ReadConfig::Bad(fault));

@@ -21,7 +21,8 @@ pub enum TextFault {
 
 /// All octets that the source has left, at most `limit` of them.
 ///
-/// It stops at the first read that fails, and at the octet past the limit.
+/// It stops at the first read that fails, and at the octet past the limit. Memory is taken only where
+/// there is an octet.
 pub fn read_text<S: Source>(
     alloc: Global,
     source: &mut S,
@@ -34,6 +35,8 @@ pub fn read_text<S: Source>(
         → IfSome (S.left source.old) (λ all. limit < length all) }
     ensures cause { CountsFault (result ≡ Err TextFault.Failed)
         (S.faults source.old) (S.faults source.new) }
+    ensures memory { result ≡ Err TextFault.OutOfMemory
+        → IfSome (S.left source.old) (λ all. 0 < length all) }
 {
     let mut buf = [0u8; CHUNK_OCTETS];
     let mut text = Vec::new(alloc);

@@ -1,5 +1,5 @@
 use Rattle.std.proofs.Common.{Ok, Err, inl, ap, ◌∙◌, length, arith}
-use Rattle.roa_irr.proofs.ReadObjects.{objects-many, objects-more, objects-only, objects-read, objects-skipped}
+use Rattle.roa_irr.proofs.ReadObjects.{objects-many, objects-more, objects-only, objects-pair, objects-read, objects-skipped}
 use Rattle.roa_irr.proofs.ReadObjects.{objects-started, objects-too_many}
 use Rattle.roa_irr.proofs.Reading.{handed_on, is_memory, not_both, same_fault}
 use Rattle.roa_irr.proofs.irr.read_irr.Goals as goal
@@ -30,6 +30,15 @@ returns-in_err-add-clause-many c is =
     objects-many c.args.text.now c.in-Some.rest object.result.1 c.objects.pairs object.result.0
     (rw c.in-Some.is at c.objects.invariant) object.ensures.outcome object.ensures.rest
     (c.add.ensures.too_many (c.in_err-add.was ∙ ap (λ f. Err f)
+    (same_fault c.from_residual.result c.in_err-add.field-0.0 _
+    (handed_on c.from_residual.result c.in_err-add.field-0.0 c.from_residual.ensures.1) is)))
+
+pub returns-in_err-add-clause-memory : goal.returns-in_err-add-clause-memory
+returns-in_err-add-clause-memory c is =
+    let object = c.read_object-outcome in
+    objects-pair c.args.text.now c.in-Some.rest object.result.1 c.objects.pairs object.result.0
+    (rw c.in-Some.is at c.objects.invariant) object.ensures.outcome object.ensures.rest
+    (c.add.ensures.memory (c.in_err-add.was ∙ ap (λ f. Err f)
     (same_fault c.from_residual.result c.in_err-add.field-0.0 _
     (handed_on c.from_residual.result c.in_err-add.field-0.0 c.from_residual.ensures.1) is)))
 

@@ -1,5 +1,5 @@
 use Rattle.std.proofs.Common.{◌≡◌, ◌<◌, ◌+◌, None, ℕ}
-use Rattle.urpf_base.specs.Address.{block_of, width_of}
+use Rattle.urpf_base.specs.Address.{block_of}
 use Rattle.std.specs.FinMap as map
 use Rattle.prefix_map.proofs.map.PrefixMap.any_covers.Given as goal
 

@@ -1,4 +1,4 @@
-use Rattle.std.proofs.Common.{sym, ◌∙◌, arith}
+use Rattle.std.proofs.Common.{sym, ◌∙◌}
 use Rattle.prefix_map.proofs.Seen.{gets_short, gets_long}
 use Rattle.prefix_map.proofs.map.PrefixMap.get.Goals as goal
 

@@ -1,4 +1,4 @@
-use Rattle.std.proofs.Common.{sym, ◌∙◌, arith}
+use Rattle.std.proofs.Common.{sym, ◌∙◌}
 use Rattle.prefix_map.proofs.Seen.{kept_short, kept_long, fewer_left, fewer_right, gets_short, gets_long, removes_short}
 use Rattle.prefix_map.proofs.Seen.{removes_long}
 use Rattle.prefix_map.proofs.map.PrefixMap.remove.Goals as goal

@@ -42,6 +42,16 @@ are_changes w old new changes table are = record {
   );
 }
 
+-- nothing is told where the table has the cells of now already
+pub no_changes : (w : World) (base : Mapped Cell) → IsTable w base → AreChanges w base []
+no_changes w base table = record {
+  ascending = tt;
+  each = λ p c. (
+    λ h. absurd h,
+    λ h. absurd (h.1 (one_cell w p c (cell_at base p) h.0 (table.cells p))),
+  );
+}
+
 same_held : (v w : Option Cell) → ¬ (v ≡ Some empty_cell) → ¬ (w ≡ Some empty_cell) → cell_or_empty v ≡ cell_or_empty w
     → v ≡ w
 same_held None None p q e = refl

@@ -173,6 +173,11 @@ adds row es fs old new is =
     once_more row (found row_order es row) (Some n) es fs (ordered es old) (ordered fs new)
     (subst (SetAt row_order row (Some n) es) (sym is) (set_by_put row n es)) refl refl
 
+-- a row stands in the list as often as its entry says
+pub counted : (row : Row) (es : List (Row × ℕ)) → is_sorted row_order es ≡ true
+    → repeats (all_rows es) row ≡ how_often (found row_order es row)
+counted row es sorted = repeats-all_rows es row (ordered es sorted)
+
 -- a row of the list is there once or more
 there : (row : Row) (es : List (Row × ℕ)) → AreSorted row_order es → Has (all_rows es) row
     → 0 < how_often (found row_order es row)

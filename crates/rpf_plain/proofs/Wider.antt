@@ -1,10 +1,11 @@
 -- The sets of an interface widen: feasible paths, Algorithm A, Algorithm B, loose mode.
 use Rattle.std.proofs.Common.{◌≡◌, ◌↔◌, inl, inr, ℕ, true, ◌==◌, ◌&&◌, not, IsSome, IsTrue, Option, Some, None}
 use Rattle.std.proofs.Common.{refl}
-use Rattle.std.proofs.lemmas.Bool.{and_from, cases_Bool, eqb-true}
+use Rattle.std.proofs.lemmas.Bool.{and_from, cases_Bool, eq-eqb, eqb-true}
 use Rattle.urpf_base.specs.Address.{Block}
 use Rattle.urpf_base.specs.Lists.{Has}
 use Rattle.rpf_plain.specs.declared.rows.Row.{Row}
+use Rattle.rpf_plain.specs.Rows.{row_of}
 use Rattle.rpf_plain.specs.Sets.{any, feasible, has_origin, has_prefix, is_origin, list_a, list_a_with_pairs}
 use Rattle.rpf_plain.specs.Sets.{origins_of, paired, received, rows_on, set_a, set_p, set_q, set_x, set_z}
 use Rattle.rpf_plain.specs.Sets.{set_z_with_pairs}
@@ -61,6 +62,16 @@ module _ (w : World) where
       → Has (list_a w i) p
       ↔ ((r : Row) × Has w.rows r × (r.prefix ≡ p) × IsTrue (has_origin (set_a w) r.origin))
   kept_in_a i p here = (of_list i p, λ (r, has, same, heard). in_list i p here r has same heard)
+
+  -- a route of a customer's interface with an origin is kept
+  pub routes_in_a : (i : ℕ) → IsTrue (is_customer w.roles i) → (p : Block) (n : ℕ) → Has w.rows (row_of i p (Some n))
+      → Has (list_a w i) p
+  routes_in_a i customer p n has =
+      let r : Row = row_of i p (Some n) in
+      let here : Has (feasible w i) p =
+      (picked (λ q. q.iface == i) w.rows p).1
+      (some_row (λ q. (q.prefix ≡ p) × ((q.iface == i) ≡ true)) w.rows r has (refl, eq-eqb i i refl)) in
+      in_list i p here r has refl ((has_origin_by (set_a w) r.origin).1 (n, refl, in_set_a r n has customer refl))
 
   pub feasible_in_a : (i : ℕ) → IsTrue (is_customer w.roles i)
       → ((r : Row) → Has w.rows r → r.iface ≡ i → IsSome r.origin)

@@ -3,6 +3,7 @@ use Rattle.std.specs.Prelude.{◌≡◌, ◌↔◌, ◌⊎◌, ℕ, false, IsTru
 use Rattle.std.specs.BTreeMap.{BTreeMap}
 use Rattle.std.specs.BTreeMap as tree
 use Rattle.std.specs.FinMap.{get}
+use Rattle.std.specs.List.{All}
 use Rattle.std.specs.Ordering.{nat_cmp}
 use Rattle.urpf_base.specs.Address.{Block}
 use Rattle.urpf_base.specs.Masks.{InMask}
@@ -122,6 +123,10 @@ reach_at origins origin = unwrap_or (tree.get nat_cmp origins origin) no_reach
 abbrev pub reach_of : BTreeMap ℕ Reach → Option ℕ → Reach
 reach_of origins None = no_reach
 reach_of origins (Some origin) = reach_at origins origin
+
+-- each of these origins stands beside what is known of it
+abbrev pub ArePlaced : BTreeMap ℕ Reach → List (ℕ × Reach) → Type 0
+ArePlaced origins places = All (λ place. place.1 ≡ reach_at origins place.0) places
 
 -- a row of this reach admits its prefix to the customer interface
 abbrev pub Admits : Reach → ℕ → ℕ → Type 0

@@ -9,6 +9,7 @@ ghost use Rattle.rpf_plain.specs.Walks.{Admits, AreCells, AreReaches, HavePairsT
 ghost use Rattle.rpf_plain.specs.Written.{IsFresh};
 
 use crate::ahead::Ahead;
+use crate::near::Near;
 use crate::origins::{Origins, Reach};
 use crate::row_map::RowMap;
 use crate::rows::Row;
@@ -49,14 +50,15 @@ pub fn decided(
     requires { AreReaches (each_row rows.now) customers origins.now.reaches }
     ensures { IfOk result (AreCells (each_row rows.now) customers) }
 {
+    let near = Near::placed(alloc, origins)?;
     let mut ahead = Ahead::over(rows);
     let mut cells = CellWriter::new(alloc);
     for row in rows.rows() {
         let ifaces = ahead.ifaces(&row.prefix);
-        let reach = origins.of(row.origin);
+        let reach = near.of(origins, row.origin);
         admit(&mut cells, row, ifaces, reach, customers)?;
     }
-    cells.finish()
+    cells.finish(alloc)
 }
 
 /// What a row of this reach says of its prefix, which these interfaces have.

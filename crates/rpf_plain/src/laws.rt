@@ -16,7 +16,7 @@ ghost use Rattle.router_config.specs.Kinds.{kind_in};
 ghost use Rattle.prefix_map.specs.Mapped.{Mapped};
 ghost use Rattle.rpf_plain.specs.Cells.{IsCell, IsDifference, IsTable};
 ghost use Rattle.rpf_plain.specs.Modes.{IsVerdict, Says, set_in, set_of};
-ghost use Rattle.rpf_plain.specs.Rows.{AreSameRows, repeats};
+ghost use Rattle.rpf_plain.specs.Rows.{AreSameRows, repeats, row_of};
 ghost use Rattle.rpf_plain.specs.Sets.{any, feasible, has_origin, list_a, list_a_with_pairs, set_a, set_p};
 ghost use Rattle.rpf_plain.specs.Sets.{set_z, set_z_with_pairs};
 ghost use Rattle.origin_pairs.specs.Pairs.{AreSamePairs, Pair};
@@ -117,6 +117,10 @@ pub fn widening()
     ensures feasible_in_a { (w : World) (i : ℕ) → IsTrue (is_customer w.roles i)
         → ((row : Row) → Has w.rows row → row.iface ≡ i → IsSome row.origin)
         → (p : Block) → Has (feasible w i) p → Has (list_a w i) p }
+    // Each route of a customer's interface that has an origin has its prefix there, whatever the other routes
+    // have: its origin is in Set A (RFC 8704, section 3.1.1, steps 1 to 3).
+    ensures routes_in_a { (w : World) (i : ℕ) → IsTrue (is_customer w.roles i)
+        → (p : Block) (origin : ℕ) → Has w.rows (row_of i p (Some origin)) → Has (list_a w i) p }
     // It has just those prefixes of an interface to which some route, on whatever interface, has an origin
     // in Set A (RFC 8704, section 3.1.1, steps 2 and 3).
     ensures kept_in_a { (w : World) (i : ℕ) (p : Block) → Has (feasible w i) p

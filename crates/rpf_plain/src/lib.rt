@@ -12,6 +12,7 @@ mod customers;
 mod differences;
 mod engine;
 mod laws;
+mod near;
 mod one_cell;
 mod origins;
 mod plain;

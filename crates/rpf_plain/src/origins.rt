@@ -8,6 +8,7 @@ use crate::ahead::Ahead;
 use crate::row_map::RowMap;
 use std::alloc::Global;
 use std::collections::BTreeMap;
+use std::collections::btree_map::Keys;
 use urpf_base::{IfaceId, Mask, Origin, OutOfMemory};
 
 /// What is known of an origin AS.
@@ -81,6 +82,16 @@ impl Origins {
             Some(origin) => self.reach(origin),
             None => Reach::none(),
         }
+    }
+
+    /// How many origins there are.
+    pub fn count(&self) -> usize {
+        self.reaches.len()
+    }
+
+    /// The numbers of the origins.
+    pub fn numbers(&self) -> Keys<'_, u32, Reach> {
+        self.reaches.keys()
     }
 
     /// The interface has a row of this origin, and these interfaces have its prefix.

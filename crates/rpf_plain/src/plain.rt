@@ -17,7 +17,8 @@ use std::alloc::Global;
 use std::marker::Model;
 use urpf_base::{Cell, Changes, IfaceId, Origin, OutOfMemory, Prefix, Role};
 
-/// An engine of the source sets that computes them anew from its rows and pairs.
+/// An engine of the source sets that computes them anew from its rows and pairs. Where nothing was
+/// changed since the last drain it knows so, and there is nothing to compute.
 #[derive(Drop)]
 pub struct PlainEngine {
     alloc: Global,
@@ -25,9 +26,12 @@ pub struct PlainEngine {
     pairs: PairSet,
     kinds: Kinds,
     base: PrefixMap<Cell>,
+    drained: bool,
 }
 
 impl Model for PlainEngine {
+    ghost use Rattle.std.specs.Prelude.{IsTrue};
+    ghost use Rattle.rpf_plain.specs.Cells.{IsTable};
     ghost use Rattle.rpf_plain.specs.Engine.{EngineState};
     ghost use Rattle.rpf_plain.specs.Kept.{all_rows, engine_code};
     ghost use Rattle.rpf_plain.specs.World.{world_for};
@@ -37,6 +41,8 @@ impl Model for PlainEngine {
     ghost coded = { engine_code };
 
     ghost view = { λ e. record { world = world_for e.kinds (all_rows e.rows) e.pairs; base = e.base } };
+
+    ghost invariant = { λ e. IsTrue e.drained → IsTable (world_for e.kinds (all_rows e.rows) e.pairs) e.base };
 }
 
 impl PlainEngine {
@@ -51,6 +57,7 @@ impl PlainEngine {
             pairs: PairSet::new(alloc),
             kinds,
             base: PrefixMap::new(alloc),
+            drained: true,
         })
     }
 }
@@ -64,6 +71,7 @@ impl SetEngine for PlainEngine {
         prefix: Prefix,
         origin: Origin,
     ) -> Result<(), OutOfMemory> {
+        self.drained = false;
         self.rows.add(Row {
             prefix,
             iface,
@@ -72,6 +80,7 @@ impl SetEngine for PlainEngine {
     }
 
     fn remove_row(&mut self, iface: IfaceId, prefix: &Prefix, origin: Origin) {
+        self.drained = false;
         self.rows.take(&Row {
             prefix: *prefix,
             iface,
@@ -80,15 +89,18 @@ impl SetEngine for PlainEngine {
     }
 
     fn set_role(&mut self, iface: IfaceId, role: Role) -> Result<(), OutOfMemory> {
+        self.drained = false;
         self.kinds.apply(&Edit::Role(iface, role));
         Ok(())
     }
 
     fn add_pair(&mut self, prefix: Prefix, asn: u32) -> Result<bool, OutOfMemory> {
+        self.drained = false;
         self.pairs.add(&prefix, asn)
     }
 
     fn remove_pair(&mut self, prefix: &Prefix, asn: u32) -> bool {
+        self.drained = false;
         self.pairs.remove(prefix, asn)
     }
 
@@ -97,9 +109,13 @@ impl SetEngine for PlainEngine {
     }
 
     fn drain_changes(&mut self) -> Result<Changes, OutOfMemory> {
+        if self.drained {
+            return Ok(Changes::new(self.alloc));
+        }
         let cells = table_of(self.alloc, &self.rows, &self.pairs, &self.kinds)?;
         let changes = differences(self.alloc, &self.base, &cells)?;
         self.base = cells;
+        self.drained = true;
         Ok(changes)
     }
 }

@@ -1,14 +1,14 @@
 //! The rows of an engine in their order, each with how often it is there.
 //!
 //! They are kept as two ordered maps, one a family, under keys of 12 and 24 octets.
-ghost use Rattle.std.specs.Prelude.{◌≡◌, ◌+◌, ◌<◌, ◌^◌, ℕ, [], ◌∷◌, Some, OnOk, OnErr, length};
+ghost use Rattle.std.specs.Prelude.{◌≡◌, ◌⊎◌, ◌+◌, ◌<◌, ◌≤◌, ◌^◌, ℕ, [], ◌∷◌, Some, OnOk, OnErr, length};
 ghost use Rattle.std.specs.BTreeMap.{IsOrdered, get, insert_entry, is_at};
 ghost use Rattle.std.specs.Iterator.{YieldsFirst, item_count};
 ghost use Rattle.std.specs.Map.{remove_entry};
 ghost use Rattle.urpf_base.specs.Lists.{Has};
 ghost use Rattle.rpf_plain.specs.Ahead.{InPrefixOrder};
 ghost use Rattle.rpf_plain.specs.Kept.{all_rows, each_row, how_often};
-ghost use Rattle.rpf_plain.specs.Rows.{AreSameRows};
+ghost use Rattle.rpf_plain.specs.Rows.{AreSameRows, repeats};
 
 use crate::row_keys::{LongRow, RowKey, ShortRow};
 use crate::row_packing::row_key;
@@ -54,11 +54,13 @@ impl RowMap {
     }
 
     /// Adds a row, which may be there already. A refusal changes nothing: it comes where memory is
-    /// short, or where the row is there 2^32 times.
+    /// short for a row that is not there, or where the row is there 2^32 times.
     pub fn add(&mut self, row: Row) -> Result<(), OutOfMemory>
         requires { length (all_rows self.old) < 2 ^ 40 }
         ensures ok { OnOk result (AreSameRows (all_rows self.new) (row ∷ all_rows self.old)) }
         ensures err { OnErr result (self.new ≡ self.old) }
+        ensures absent { OnErr result ((repeats (all_rows self.old) row ≡ 0)
+            ⊎ (2 ^ 32 ≤ repeats (all_rows self.old) row)) }
     {
         match row_key(&row) {
             RowKey::Short(key) => add_once(&mut self.short, key),
@@ -89,12 +91,15 @@ impl RowMap {
     }
 }
 
-/// Adds a row to those of its family. A refusal changes nothing.
+/// Adds a row to those of its family. A refusal changes nothing: it comes only where the row is not
+/// there, or is there 2^32 times.
 fn add_once<K: Ord + Copy>(rows: &mut BTreeMap<K, u32>, row: K) -> Result<(), OutOfMemory>
     ensures ok { OnOk result (rows.new.entries
         ≡ insert_entry K.cmp rows.old.entries row (how_often (get K.cmp rows.old row))) }
     ensures ordered { OnOk result (IsOrdered K.cmp rows.new) }
     ensures err { OnErr result (rows.new.entries ≡ rows.old.entries) }
+    ensures absent { OnErr result ((how_often (get K.cmp rows.old row) ≡ 0)
+        ⊎ (2 ^ 32 ≤ how_often (get K.cmp rows.old row))) }
 {
     let more = rows.get(&row).copied();
     if more == Some(u32::MAX) {

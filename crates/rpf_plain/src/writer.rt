@@ -6,7 +6,7 @@ ghost use Rattle.rpf_plain.specs.Cells.{cell_at, empty_cell};
 ghost use Rattle.rpf_plain.specs.Written.{IsFresh};
 
 use crate::cells::no_cell;
-use prefix_map::PrefixMap;
+use prefix_map::{PrefixMap, PrefixMapBuilder};
 use std::alloc::Global;
 use std::marker::Model;
 use urpf_base::{Cell, OutOfMemory, Prefix};
@@ -14,7 +14,7 @@ use urpf_base::{Cell, OutOfMemory, Prefix};
 /// The table, and the cell that is not put into it yet. Contracts see the table with that cell in it.
 #[derive(Drop)]
 pub struct CellWriter {
-    cells: PrefixMap<Cell>,
+    cells: PrefixMapBuilder<Cell>,
     hand: Option<(Prefix, Cell)>,
 }
 
@@ -35,7 +35,7 @@ impl CellWriter {
         ensures at { result.at ≡ None }
     {
         CellWriter {
-            cells: PrefixMap::new(alloc),
+            cells: PrefixMapBuilder::new(alloc),
             hand: None,
         }
     }
@@ -86,20 +86,18 @@ impl CellWriter {
         let Some((prefix, cell)) = self.hand else {
             return Ok(());
         };
-        let Ok(_) = self.cells.set(&prefix, cell) else {
-            return Err(OutOfMemory);
-        };
+        self.cells.set(&prefix, cell)?;
         self.hand = None;
         Ok(())
     }
 
     /// The whole table.
-    pub fn finish(self) -> Result<PrefixMap<Cell>, OutOfMemory>
+    pub fn finish(self, alloc: Global) -> Result<PrefixMap<Cell>, OutOfMemory>
         ensures { IfOk result (λ cells. cells ≡ self.cells) }
     {
         let mut writer = self;
         writer.settle()?;
-        Ok(writer.cells)
+        writer.cells.finish(alloc)
     }
 }
 

@@ -1,9 +1,9 @@
-use Rattle.std.proofs.Common.{ap, sym, ◌∙◌}
+use Rattle.std.proofs.Common.{◌≡◌, ◌^◌, ◌≤◌, ◌⊎◌, ℕ, ap, subst, sym, ◌∙◌}
 use Rattle.std.specs.FinMap.{put}
-use Rattle.prefix_map.proofs.Outcomes.{on_ok}
+use Rattle.prefix_map.proofs.Outcomes.{on_err, on_ok}
 use Rattle.rpf_plain.specs.Kept.{how_often}
 use Rattle.rpf_plain.specs.Rows.{row_order}
-use Rattle.rpf_plain.proofs.Repeats.{adds}
+use Rattle.rpf_plain.proofs.Repeats.{adds, counted}
 use Rattle.rpf_plain.proofs.RowKeys.{ascending, ascends, found_long, found_short, left_long, left_short, puts_long}
 use Rattle.rpf_plain.proofs.RowKeys.{puts_short}
 use Rattle.rpf_plain.proofs.row_map.RowMap.add.Goals as goal
@@ -37,3 +37,17 @@ returns-in-Long-clause-ok c =
     (puts_long key _ c.self.invariant c.self.view_is c.in-Long.ensures is
     ∙ ap (λ o. put row_order c.args.row (how_often o) c.args.self.now)
     (sym (found_long key c.self.invariant c.self.view_is c.in-Long.ensures))))
+
+pub returns-in-Short-clause-absent : goal.returns-in-Short-clause-absent
+returns-in-Short-clause-absent c =
+    on_err c.add_once.result c.add_once.ensures.absent
+    (subst (λ (n : ℕ). (n ≡ 0) ⊎ (2 ^ 32 ≤ n))
+    (ap how_often (sym (found_short c.in-Short.key c.self.invariant c.self.view_is c.in-Short.ensures))
+    ∙ sym (counted c.args.row c.args.self.now (ascends c.self.invariant c.self.view_is))))
+
+pub returns-in-Long-clause-absent : goal.returns-in-Long-clause-absent
+returns-in-Long-clause-absent c =
+    on_err c.add_once-in-Long.result c.add_once-in-Long.ensures.absent
+    (subst (λ (n : ℕ). (n ≡ 0) ⊎ (2 ^ 32 ≤ n))
+    (ap how_often (sym (found_long c.in-Long.key c.self.invariant c.self.view_is c.in-Long.ensures))
+    ∙ sym (counted c.args.row c.args.self.now (ascends c.self.invariant c.self.view_is))))

@@ -1,7 +1,15 @@
+pub mod Between
+pub mod Blocks
 pub mod Covering
+pub mod Descending
+pub mod Families
 pub mod Folding
+pub mod Joining
+pub mod Looking
 pub mod Parts
 pub mod Passing
-pub mod Placed
-pub mod Worlds
+pub mod Standing
+pub mod Turning
+pub mod Whole
 pub mod Writes
+pub mod Writing

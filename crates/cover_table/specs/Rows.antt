@@ -1,11 +1,11 @@
--- A table kept as a plain list of rows, ascending by prefix. Our own choice.
-use Rattle.std.specs.Prelude.{◌≡◌, ℕ, IsTrue, not, List, take, drop, if◌then◌else◌}
+-- The rows of a table, ascending by prefix, and what writing a cell does to them. Our own choice.
+use Rattle.std.specs.Prelude.{◌≡◌, IsTrue, not, List, if◌then◌else◌}
 use Rattle.std.specs.FinMap.{is_sorted}
 use Rattle.std.specs.FinMap.Entries.{put}
 use Rattle.std.specs.List.{AllByRecursion, filter}
 use Rattle.std.specs.Ordering.{eq_by_cmp}
 use Rattle.urpf_base.specs.Address.{Block}
-use Rattle.urpf_base.specs.Order.{IsBefore, prefix_order}
+use Rattle.urpf_base.specs.Order.{prefix_order}
 use Rattle.urpf_base.specs.declared.cells.Cell.{Cell}
 use Rattle.urpf_base.specs.declared.cells.CellChange.{CellChange}
 use Rattle.rpf_plain.specs.Cells.{empty_cell}
@@ -19,11 +19,6 @@ TableRow = Block × Cell
 pub record AreRows (rows : List TableRow) : Type 0 where
   pub ascending : IsTrue (is_sorted prefix_order rows)
   pub filled : AllByRecursion (λ row. ¬ (row.1 ≡ empty_cell)) rows
-
--- the rows before the place come before the prefix, and no other does
-pub record IsPlace (rows : List TableRow) (prefix : Block) (place : ℕ) : Type 0 where
-  pub before : AllByRecursion (λ row. IsBefore row.0 prefix) (take place rows)
-  pub behind : AllByRecursion (λ row. ¬ IsBefore row.0 prefix) (drop place rows)
 
 -- the rows with this cell at its prefix; an empty cell gets no row
 abbrev pub rows_written : CellChange → List TableRow → List TableRow

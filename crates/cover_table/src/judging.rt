@@ -1,27 +1,14 @@
-//! What the rows of a table say of an address.
-ghost use Rattle.std.specs.Prelude.{◌≡◌, ◌==◌, ◌||◌, not};
-ghost use Rattle.std.specs.List.{list_any};
-ghost use Rattle.cover_table.specs.Judging.{admits, covers, in_mask, is_off, told};
+//! What an entry says of the interface that a source came in on.
+ghost use Rattle.std.specs.Prelude.{◌≡◌, ◌==◌, ◌&&◌, ℕ, not};
+ghost use Rattle.cover_table.specs.Judging.{in_mask, is_off, told};
+ghost use Rattle.cover_table.specs.Tables.{is_empty_cell};
+ghost use Rattle.cover_table.specs.Trees.{block_for, entry_cell};
 
-use urpf_base::{Addr, Cell, IfaceId, Mask, Mode, Prefix};
-
-/// Whether the address passes by the mode, or some row admits it.
-pub fn some_admits(rows: &[(Prefix, Cell)], iface: IfaceId, mode: Mode, addr: &Addr) -> bool
-    ensures { result ≡ (is_off mode || list_any (admits mode iface addr.now) rows.now) }
-{
-    if is_off(mode) {
-        return true;
-    }
-    for row in rows {
-        if admits(mode, iface, addr, row) {
-            return true;
-        }
-    }
-    false
-}
+use crate::nodes::Entry;
+use urpf_base::{IfaceId, Mask, Mode};
 
 /// Whether sources are not checked in this mode.
-fn is_off(mode: Mode) -> bool
+pub fn is_off(mode: Mode) -> bool
     ensures { result ≡ is_off mode }
 {
     match mode {
@@ -30,24 +17,21 @@ fn is_off(mode: Mode) -> bool
     }
 }
 
-/// Whether the row is for a prefix of the set that covers the address.
-fn admits(mode: Mode, iface: IfaceId, addr: &Addr, row: &(Prefix, Cell)) -> bool
-    ensures { result ≡ admits mode iface addr.now row.now }
+/// Whether the entry is not empty, and says that its prefix is in the set of the interface.
+pub fn told_by(mode: Mode, iface: IfaceId, entry: &Entry) -> bool
+    ensures { (width : ℕ) → result ≡ (not (is_empty_cell (entry_cell entry.now))
+        && told mode iface (block_for width entry.now) (entry_cell entry.now)) }
 {
-    told(mode, iface, &row.0, &row.1) && covers(&row.0, addr)
-}
-
-/// What the cell says of the prefix being in the set of the interface.
-fn told(mode: Mode, iface: IfaceId, prefix: &Prefix, cell: &Cell) -> bool
-    ensures { result ≡ told mode iface prefix.now cell.now }
-{
+    if entry.is_empty() {
+        return false;
+    }
     match mode {
         Mode::Off => true,
-        Mode::Feasible => in_mask(&cell.f, iface),
-        Mode::Loose => has_some(&cell.f),
-        Mode::LooseNoDefault => prefix.len() > 0 && has_some(&cell.f),
-        Mode::EfpA => in_mask(&cell.a, iface),
-        Mode::EfpB => cell.z,
+        Mode::Feasible => in_mask(&entry.f, iface),
+        Mode::Loose => has_some(&entry.f),
+        Mode::LooseNoDefault => entry.len > 0 && has_some(&entry.f),
+        Mode::EfpA => in_mask(&entry.a, iface),
+        Mode::EfpB => entry.z,
     }
 }
 
@@ -63,11 +47,4 @@ fn has_some(mask: &Mask) -> bool
     ensures { result ≡ not (mask.now == 0) }
 {
     !mask.is_empty()
-}
-
-/// Whether the prefix covers the address.
-fn covers(prefix: &Prefix, addr: &Addr) -> bool
-    ensures { result ≡ covers prefix.now addr.now }
-{
-    prefix.covers(addr)
 }

@@ -1,5 +1,5 @@
 //! What holds of all tables, folds and verdicts, for crates that cite it. The functions do nothing.
-ghost use Rattle.std.specs.Prelude.{◌≡◌, ◌↔◌, ◌++◌, ℕ, IsTrue, List, [], ◌∷◌, Option, Some, None, length};
+ghost use Rattle.std.specs.Prelude.{◌≡◌, ◌↔◌, ◌++◌, ℕ, IsTrue, List, [], ◌∷◌, Option, Some, None};
 ghost use Rattle.std.specs.FinMap.{get};
 ghost use Rattle.urpf_base.specs.Address.{Block, Covers};
 ghost use Rattle.urpf_base.specs.Cells.{AreAscending};
@@ -11,13 +11,11 @@ ghost use Rattle.urpf_base.specs.declared.kinds.Kind.{Kind};
 ghost use Rattle.urpf_base.specs.declared.kinds.Mode.{Mode};
 ghost use Rattle.prefix_map.specs.Mapped.{Mapped};
 ghost use Rattle.router_config.specs.Kinds.{kind_in};
-ghost use Rattle.origin_pairs.specs.Pairs.{Pair};
 ghost use Rattle.rpf_plain.specs.Cells.{cell_at, cell_or_empty, empty_cell};
-ghost use Rattle.rpf_plain.specs.Modes.{IsVerdict, Says};
+ghost use Rattle.rpf_plain.specs.Modes.{Says};
 ghost use Rattle.cover_table.specs.declared.batch.Batch.{Batch};
 ghost use Rattle.cover_table.specs.Folds.{AllAscend, last_kinds, last_named, last_number};
 ghost use Rattle.cover_table.specs.Judging.{judge, passes};
-ghost use Rattle.cover_table.specs.Marks.{AreBatchesOf, IsBatchOf, Mark, StandsFor, first_mark, last_mark};
 ghost use Rattle.cover_table.specs.Snapshots.{Publication, fold, opening, step};
 ghost use Rattle.cover_table.specs.Tables.{taken_over, written};
 
@@ -74,29 +72,4 @@ pub fn judge_laws()
     ensures bad_head { (s : Publication) (iface : ℕ) (source : Option Addr)
         → ((judge s iface source ≡ Verdict.BadHead)
         ↔ (¬ (kind_in s.kinds iface ≡ None) × (source ≡ None))) }
-{}
-
-/// That a publication with the kinds of a mark and the cells of its world judges as that world does,
-/// and that a batch made of the difference leads from the world of one mark to that of the next.
-pub fn world_laws()
-    ensures first { (kinds : List (ℕ × Kind)) (pairs : List Pair)
-        → StandsFor (first_mark kinds pairs) (opening kinds) }
-    ensures step { (number : ℕ) (before mark : Mark) (s : Publication) (batch : Batch)
-        → StandsFor before s → IsBatchOf number before mark batch → StandsFor mark (step s batch) }
-    ensures verdict { (mark : Mark) (s : Publication) → StandsFor mark s
-        → (iface : ℕ) (source : Option Addr)
-        → IsVerdict mark.kinds mark.rows mark.pairs iface source (judge s iface source) }
-{}
-
-/// That the fold of batches which are what differs between the worlds of one mark and of the next,
-/// from a world without rows on, judges as the world of the last mark does, and has its number.
-pub fn fold_judges_as_world()
-    ensures verdict { (kinds : List (ℕ × Kind)) (pairs : List Pair) (marks : List Mark)
-        (batches : List Batch) → AreBatchesOf 0 (first_mark kinds pairs) marks batches
-        → (iface : ℕ) (source : Option Addr)
-        → let last : Mark = last_mark (first_mark kinds pairs) marks in
-        IsVerdict last.kinds last.rows last.pairs iface source (judge (fold kinds batches) iface source) }
-    ensures number { (kinds : List (ℕ × Kind)) (pairs : List Pair) (marks : List Mark)
-        (batches : List Batch) → AreBatchesOf 0 (first_mark kinds pairs) marks batches
-        → (fold kinds batches).number ≡ length marks }
 {}

@@ -6,13 +6,17 @@
 #![tactic(auto)]
 
 mod batch;
+mod forks;
+mod grow;
 mod judging;
 mod laws;
-mod rows;
+mod look;
+mod nodes;
 mod snapshot;
 mod table;
+mod tree;
 
 pub use batch::Batch;
-pub use laws::{fold_judges_as_world, fold_laws, fold_steps, judge_laws, world_laws, written_laws};
+pub use laws::{fold_laws, fold_steps, judge_laws, written_laws};
 pub use snapshot::Snapshot;
 pub use table::CoverTable;

@@ -1,6 +1,6 @@
 //! A snapshot: it takes over what is published, batch by batch, and judges sources by it.
-ghost use Rattle.std.specs.Prelude.{◌≡◌, ◌≤◌, MatchResult, length};
-ghost use Rattle.cover_table.specs.Judging.{judge};
+ghost use Rattle.std.specs.Prelude.{◌≡◌, ◌≤◌, ◌<◌, MatchResult, length};
+ghost use Rattle.cover_table.specs.Judging.{judge, passes};
 ghost use Rattle.cover_table.specs.Snapshots.{opening, step};
 ghost use Rattle.cover_table.specs.Tables.{taken_over};
 
@@ -8,8 +8,9 @@ use crate::batch::Batch;
 use crate::table::CoverTable;
 use router_config::Kinds;
 use std::alloc::Global;
-use std::marker::Model;
-use urpf_base::{Addr, CellChange, OutOfMemory, Verdict};
+use std::marker::{Brand, Model};
+use std::sync::ledger::{Blank, Ledger};
+use urpf_base::{Addr, CellChange, IfaceId, Mode, OutOfMemory, Steps, Verdict};
 
 /// What was published last: its number, the interfaces with their kinds, and the cells. Contracts
 /// see these alone, and not the room that is left.
@@ -72,7 +73,7 @@ impl Snapshot {
         let Some(source) = source else {
             return Verdict::BadHead;
         };
-        if self.table.check(id, kind.effective(), &source) {
+        if passes_counted::<Brand>(&self.table, id, kind.effective(), &source, Blank::new(1)) {
             return Verdict::Pass;
         }
         Verdict::Drop
@@ -91,6 +92,23 @@ impl Snapshot {
     {
         &self.kinds
     }
+}
+
+/// Whether the source passes. The steps are counted for the contract of the table alone.
+fn passes_counted<L: Ledger>(
+    table: &CoverTable,
+    iface: IfaceId,
+    mode: Mode,
+    addr: &Addr,
+    blank: Blank,
+) -> bool
+    requires name { blank.name ≡ L.name }
+    requires parts { blank.parts ≡ L.parts }
+    requires some { 0 < blank.parts }
+    ensures { result ≡ passes mode iface table.now.cells addr.now }
+{
+    let mut steps = Steps::<L>::new(blank);
+    table.check(iface, mode, addr, &mut steps)
 }
 
 /// Writes the cells of all changes. It takes no memory.

@@ -1,6 +1,9 @@
-//! Drawn tables: what a table says of a source is what a slow program says that walks all writes.
+//! Drawn tables: what the trees of a table say of a source is what a plain list says, and what a slow
+//! program says that walks all writes.
 ghost use Rattle.std.specs.Prelude.{◌<◌};
 
+use crate::tests::asked::passes;
+use crate::tests::listed::{Listed, is_in_set};
 use crate::tests::made::iface;
 use cover_table::CoverTable;
 use std::process::Abort;
@@ -91,24 +94,11 @@ fn is_written_over(later: &[CellChange], prefix: &Prefix) -> bool {
     false
 }
 
-/// Whether the cell of the prefix has it in the set of the interface.
-fn is_in_set(mode: Mode, iface: IfaceId, change: &CellChange) -> bool {
-    let heard = change.cell.f != Mask::empty();
-    match mode {
-        Mode::Off => true,
-        Mode::Feasible => change.cell.f.has(iface),
-        Mode::Loose => heard,
-        Mode::LooseNoDefault => heard && change.prefix.len() != 0,
-        Mode::EfpA => change.cell.a.has(iface),
-        Mode::EfpB => change.cell.z,
-    }
-}
-
 /// Whether the source passes by the last write of some prefix that covers it.
 fn slow_check(writes: &[CellChange], iface: IfaceId, mode: Mode, source: &Addr) -> bool {
     for (i, change) in writes.iter().enumerate() {
         if change.prefix.covers(source)
-            && is_in_set(mode, iface, change)
+            && is_in_set(mode, iface, &change.prefix, &change.cell)
             && !is_written_over(&writes[i + 1..], &change.prefix)
         {
             return true;
@@ -117,8 +107,15 @@ fn slow_check(writes: &[CellChange], iface: IfaceId, mode: Mode, source: &Addr) 
     mode == Mode::Off
 }
 
-/// Table and slow program agree on the source in each mode.
-fn agree(rt: &impl Abort, table: &CoverTable, writes: &[CellChange], id: IfaceId, source: &Addr) {
+/// The table of trees, the plain list and the slow program agree on the source in each mode.
+fn agree(
+    rt: &impl Abort,
+    table: &CoverTable,
+    listed: &Listed,
+    writes: &[CellChange],
+    id: IfaceId,
+    source: &Addr,
+) {
     for mode in [
         Mode::Off,
         Mode::Feasible,
@@ -129,7 +126,12 @@ fn agree(rt: &impl Abort, table: &CoverTable, writes: &[CellChange], id: IfaceId
     ] {
         let wanted = slow_check(writes, id, mode, source);
         assert_eq!(rt;
-            table.check(id, mode, source),
+            passes(table, id, mode, source),
+            wanted,
+            "{mode:?} {source:?}"
+        );
+        assert_eq!(rt;
+            listed.check(id, mode, source),
             wanted,
             "{mode:?} {source:?}"
         );
@@ -139,17 +141,19 @@ fn agree(rt: &impl Abort, table: &CoverTable, writes: &[CellChange], id: IfaceId
 /// A drawn table, beside the list of its writes.
 fn draw_table(rt: &(impl Abort + AllocGlobal), draw: &mut Draw) {
     let mut table = CoverTable::new(rt.alloc());
+    let mut listed = Listed::new(rt.alloc());
     let mut writes = Vec::new(rt.alloc());
     for _ in 0..draw.below(WRITES) + 1 {
         let next = change(rt, draw);
         table.reserve(1).expect(rt, "memory");
         table.absorb(&next);
+        listed.write(&next).expect(rt, "memory");
         writes.push(next).expect(rt, "memory");
     }
     for _ in 0..SOURCES {
         let source = addr(draw);
-        agree(rt, &table, &writes, iface(rt, 0), &source);
-        agree(rt, &table, &writes, iface(rt, 63), &source);
+        agree(rt, &table, &listed, &writes, iface(rt, 0), &source);
+        agree(rt, &table, &listed, &writes, iface(rt, 63), &source);
     }
 }
 

@@ -1,6 +1,7 @@
 //! A batch that is refused changes nothing, and the same batch is taken over where memory is there
 //! again. With no allocation refused, this is one run with ample memory; `rt try --test
 //! --fail-alloc N` refuses the Nth.
+use crate::tests::asked::passes;
 use crate::tests::made::{Given, TEST_NET_2, TEST_NET_3, batch, iface, seven};
 use cover_table::{Batch, CoverTable, Snapshot};
 use std::process::Abort;
@@ -49,5 +50,5 @@ fn room_that_is_refused_changes_nothing(rt: HostRuntime) {
         table.reserve(1).expect(&rt, "memory is there again");
     }
     assert!(rt; table.reserve(usize::MAX).is_err());
-    assert!(rt; !table.check(iface(&rt, 0), Mode::Loose, &Addr::V4(TEST_NET_2)));
+    assert!(rt; !passes(&table, iface(&rt, 0), Mode::Loose, &Addr::V4(TEST_NET_2)));
 }

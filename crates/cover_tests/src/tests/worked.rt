@@ -1,5 +1,6 @@
 //! Worked publications with the verdicts of a snapshot, by hand from the modes (RFC 8704, section 3;
 //! RFC 3704, section 2).
+use crate::tests::asked::passes;
 use crate::tests::made::{
     DOCUMENTATION, Given, TEST_NET_1, TEST_NET_2, TEST_NET_3, batch, change, iface, seven,
 };
@@ -105,10 +106,10 @@ fn a_table_takes_cells_into_the_room_that_was_made(rt: HostRuntime) {
     let one = iface(&rt, 1);
     let three = iface(&rt, 3);
     let source = Addr::V4(TEST_NET_3 + 7);
-    assert!(rt; table.check(three, Mode::Feasible, &source));
-    assert!(rt; !table.check(one, Mode::Feasible, &source));
-    assert!(rt; table.check(one, Mode::Loose, &source));
-    assert!(rt; !table.check(one, Mode::EfpB, &source));
+    assert!(rt; passes(&table, three, Mode::Feasible, &source));
+    assert!(rt; !passes(&table, one, Mode::Feasible, &source));
+    assert!(rt; passes(&table, one, Mode::Loose, &source));
+    assert!(rt; !passes(&table, one, Mode::EfpB, &source));
 }
 
 /// What may be shared by threads, and move to another one.

@@ -1,3 +1,4 @@
+pub mod BatchWorlds
 pub mod Counting
 pub mod Edited
 pub mod FaultCounts
@@ -5,7 +6,6 @@ pub mod Held
 pub mod HistoryLaws
 pub mod ItemLaws
 pub mod ItemStepLaws
-pub mod Judged
 pub mod LastMarks
 pub mod Logs
 pub mod Many
@@ -23,10 +23,10 @@ pub mod RowLengths
 pub mod RunLaws
 pub mod Saying
 pub mod SomeRun
+pub mod Shown
 pub mod Slots
 pub mod Standing
 pub mod Summaries
-pub mod TakenOver
 pub mod StandsPulled
 pub mod TurnEnds
 pub mod TurnLaws

@@ -16,7 +16,7 @@ use Rattle.router_config.specs.Configured.{IsConfigured}
 use Rattle.router_config.specs.Settings.{Settings}
 use Rattle.rpf_plain.proofs.Listed.{configured}
 use Rattle.rpf_plain.proofs.Drained.{no_rows, one_table}
-use Rattle.rpf_plain.specs.Cells.{IsTable, cell_at}
+use Rattle.rpf_plain.specs.Cells.{IsTable}
 use Rattle.rpf_plain.specs.Engine.{EngineState, new_engine}
 use Rattle.rpf_plain.specs.Rows.{repeats}
 use Rattle.rpf_plain.specs.World as sets
@@ -29,7 +29,7 @@ use Rattle.control_core.specs.EngineRows.{rows_of, session_rows}
 use Rattle.control_core.specs.History.{StandsFor}
 use Rattle.control_core.specs.Kept.{AreNumbered, IsKept, all_rows}
 use Rattle.control_core.specs.Openings.{AreNew, zeros}
-use Rattle.control_core.specs.States.{ControlState, PeerState, Published}
+use Rattle.control_core.specs.States.{ControlState, PeerState}
 use Rattle.control_core.specs.Worlds.{Course, IsRowOfAny, Opening, kinds_after, pairs_after}
 use Rattle.control_core.specs.declared.limits.Limits.{Limits}
 use Rattle.control_core.specs.declared.limits.TheConstants.{ITEM_LIMIT}
@@ -153,12 +153,10 @@ pub opened : (opening : Opening) (limits : Limits) (control : ControlState)
     → AllByRecursion (λ p. p.ended ≡ false) control.peers
     → control.kinds ≡ opening.settings.interfaces → control.edits ≡ 0
     → control.engine.base ≡ empty → IsPairSet opening.pairs control.engine.world.pairs
-    → control.marks ≡ first_mark opening.settings.sessions ∷ []
-    → control.published.kinds ≡ opening.settings.interfaces
-    → ((p : Block) → cell_at control.published.cells p ≡ cell_at empty p) → control.limits ≡ limits
+    → control.marks ≡ first_mark opening.settings.sessions ∷ [] → control.limits ≡ limits
     → control.exhausted ≡ false → IsKept control.peers control.kinds control.engine control.limits
     → IsOpened opening limits control
-opened opening limits control stand unmet kinds edits base pairs marks judged cells is_limits exhausted kept =
+opened opening limits control stand unmet kinds edits base pairs marks is_limits exhausted kept =
     let sessions : List SessionConfig = opening.settings.sessions in
     let roles = roles_of opening.settings.interfaces in
     record {
@@ -178,10 +176,11 @@ opened opening limits control stand unmet kinds edits base pairs marks judged ce
             (kinds ∙ sym (no_kinds control.edits opening.settings.interfaces))
             (subst (λ (ps : List Pair). IsPairSet ps control.engine.world.pairs)
             (sym (no_pairs_edited control.edits opening.pairs)) pairs);
+        marked_kinds = opening.settings.interfaces;
         marked = record { rows = []; roles = roles; pairs = control.engine.world.pairs };
         is_marked = record {
-          edited = judged;
-          roles = ap roles_of (sym judged);
+          edited = refl;
+          roles = refl;
           pairs = pairs;
           rows = λ row. (
             λ never. absurd never,
@@ -190,7 +189,6 @@ opened opening limits control stand unmet kinds edits base pairs marks judged ce
         };
         base = subst (IsTable (record { rows = []; roles = roles; pairs = control.engine.world.pairs })) (sym base)
             (no_rows roles control.engine.world.pairs);
-        cells = λ p. cells p ∙ sym (ap (λ t. cell_at t p) base);
       };
       unmet = unmet;
       marks = marks;
@@ -211,6 +209,16 @@ empty_table world table never is =
     one_table (without_rows []) table empty (subst (λ (rs : List Row). IsTable (without_rows rs) table) rows is)
     (no_rows world.roles world.pairs)
 
+-- the table of a control at its opening is empty
+pub empty_base : (opening : Opening) (limits : Limits) (control : ControlState) → IsOpened opening limits control
+    → control.engine.base ≡ empty
+empty_base opening limits control opened =
+    let stands = opened.stands in
+    empty_table stands.marked control.engine.base
+    (λ row has.
+    no_row_yet opening.settings.sessions stands.last.items row ((stands.is_marked.rows row).0 has))
+    stands.base
+
 -- an engine of a control at its opening has no pairs
 pub no_pairs_yet : (control : ControlState) → IsUnused control → control.engine.world.pairs ≡ []
 no_pairs_yet control unused =
@@ -224,7 +232,6 @@ pub record IsLoaded (table : List Pair) (old new : ControlState) : Type 0 where
   pub kinds : new.kinds ≡ old.kinds
   pub edits : new.edits ≡ old.edits
   pub marks : new.marks ≡ old.marks
-  pub published : new.published ≡ old.published
   pub limits : new.limits ≡ old.limits
   pub exhausted : new.exhausted ≡ old.exhausted
   pub base : new.engine.base ≡ old.engine.base
@@ -237,18 +244,13 @@ pub opened_loaded : (settings : Settings) (limits : Limits) (pairs : List Pair) 
     → IsOpened (record { settings = settings; pairs = pairs }) limits new
 opened_loaded settings limits pairs old new was is kept =
     let stands = was.stands in
-    let base : old.engine.base ≡ empty =
-    empty_table stands.marked old.engine.base
-    (λ row has. no_row_yet settings.sessions stands.last.items row ((stands.is_marked.rows row).0 has)) stands.base in
+    let base : old.engine.base ≡ empty = empty_base (without_pairs settings) limits old was in
     opened (record { settings = settings; pairs = pairs }) limits new
     (subst (AllStand (map not_begun settings.sessions)) (sym is.peers) stands.stand)
     (subst (AllByRecursion (λ (p : PeerState). p.ended ≡ false)) (sym is.peers) was.unmet)
     (is.kinds ∙ stands.now.edited ∙ no_kinds old.edits settings.interfaces)
     (is.edits ∙ stands.counted) (is.base ∙ base) is.pairs
     (is.marks ∙ was.marks)
-    (ap (λ (w : Published). w.kinds) is.published ∙ stands.is_marked.edited
-    ∙ no_kinds stands.last.edits settings.interfaces)
-    (λ p. ap (λ (w : Published). cell_at w.cells p) is.published ∙ stands.cells p ∙ ap (λ t. cell_at t p) base)
     (is.limits ∙ was.limits_are) (is.exhausted ∙ was.exhausted) kept
 
 none_listed : (pairs : List (Block × Option ℕ)) → ((pair : Block × Option ℕ) → Has pairs pair → ⊥) → pairs ≡ []

@@ -4,20 +4,17 @@ use Rattle.std.proofs.Common.{refl, sym, ap, subst, ◌∙◌, arith, length-app
 use Rattle.std.proofs.lemmas.List.{take-append-le, take_all}
 use Rattle.std.specs.Prelude.{slice_get, slice_set}
 use Rattle.urpf_base.specs.Lists.{Has}
-use Rattle.urpf_base.specs.declared.cells.Cell.{Cell}
 use Rattle.urpf_base.specs.declared.kinds.Kind.{Kind}
 use Rattle.feed_io.specs.Events.{Event}
 use Rattle.origin_pairs.specs.Pairs.{IsPairSet, Pair}
-use Rattle.prefix_map.specs.Mapped.{Mapped}
 use Rattle.router_config.specs.Edits.{edited}
 use Rattle.router_config.specs.declared.edits.Edit.{Edit}
-use Rattle.rpf_plain.specs.Cells.{IsTable, cell_at}
-use Rattle.rpf_plain.specs.World.{roles_of}
+use Rattle.rpf_plain.specs.Cells.{IsTable}
 use Rattle.session_fsm.specs.declared.items.Effect.{Effect}
 use Rattle.control_core.specs.Controls.{AllStand, AreAtMost, ControlStandsFor, goes_on, items_of, position_of}
 use Rattle.control_core.specs.History.{StandsFor}
 use Rattle.control_core.specs.Kept.{IsKept}
-use Rattle.control_core.specs.States.{ControlState, PeerState, Published}
+use Rattle.control_core.specs.States.{ControlState, PeerState}
 use Rattle.control_core.specs.Worlds.{Course, IsWorldAt, Opening, kinds_after, pairs_after, pairs_edited}
 use Rattle.control_core.proofs.Many.{at_most_set, configs_set, past_set, stand_at, stand_set}
 use Rattle.control_core.proofs.NowWorld.{rows_now}
@@ -31,7 +28,6 @@ pub record GoesOn (session : ℕ) (peer later : PeerState) (old new : ControlSta
   pub kinds : new.kinds ≡ old.kinds
   pub edits : new.edits ≡ old.edits
   pub marks : new.marks ≡ old.marks
-  pub published : new.published ≡ old.published
   pub pairs : new.engine.world.pairs ≡ old.engine.world.pairs
   pub base : new.engine.base ≡ old.engine.base
 
@@ -80,11 +76,11 @@ stands_pulled opening edits courses session course gave more peer later old new 
             (at_most_set stands.last.items old.peers session peer later stands.reached.items on.was on.more_items);
       };
       now = now_world opening edits next stands.last.number new stand kept kinds pairs;
+      marked_kinds = stands.marked_kinds;
       marked = stands.marked;
       is_marked = record {
-        edited = ap (λ (p : Published). p.kinds) on.published ∙ stands.is_marked.edited;
-        roles = stands.is_marked.roles
-            ∙ ap (λ (p : Published). roles_of p.kinds) (sym on.published);
+        edited = stands.is_marked.edited;
+        roles = stands.is_marked.roles;
         pairs = stands.is_marked.pairs;
         rows = λ row.
             subst (λ (T : Type 0). Has stands.marked.rows row ↔ T)
@@ -92,9 +88,6 @@ stands_pulled opening edits courses session course gave more peer later old new 
             stands.reached.items got)) (stands.is_marked.rows row);
       };
       base = subst (IsTable stands.marked) (sym on.base) stands.base;
-      cells = λ p.
-          ap (λ (w : Published). cell_at w.cells p) on.published ∙ stands.cells p
-          ∙ ap (λ (t : Mapped Cell). cell_at t p) (sym on.base);
     }
 
 -- an edit behind others
@@ -114,7 +107,6 @@ pub record IsEdited (edit : Edit) (old new : ControlState) : Type 0 where
   pub edits : new.edits ≡ old.edits + 1
   pub peers : new.peers ≡ old.peers
   pub marks : new.marks ≡ old.marks
-  pub published : new.published ≡ old.published
   pub pairs : (pairs : List Pair) → IsPairSet pairs old.engine.world.pairs
       → IsPairSet (pairs_edited edit pairs) new.engine.world.pairs
   pub base : new.engine.base ≡ old.engine.base
@@ -161,17 +153,15 @@ stands_edited opening edits courses edit old new stands is kept =
             stands.reached.items;
       };
       now = now_world opening (edits ++ edit ∷ []) courses stands.last.number new stand kept kinds pairs;
+      marked_kinds = stands.marked_kinds;
       marked = stands.marked;
       is_marked = record {
-        edited = ap (λ (p : Published). p.kinds) is.published ∙ stands.is_marked.edited
+        edited = stands.is_marked.edited
             ∙ sym (ap (λ es. kinds_after es opening.settings.interfaces) marked_edits);
-        roles = stands.is_marked.roles ∙ ap (λ (p : Published). roles_of p.kinds) (sym is.published);
+        roles = stands.is_marked.roles;
         pairs = subst (λ es. IsPairSet (pairs_after es opening.pairs) stands.marked.pairs) (sym marked_edits)
             stands.is_marked.pairs;
         rows = stands.is_marked.rows;
       };
       base = subst (IsTable stands.marked) (sym is.base) stands.base;
-      cells = λ p.
-          ap (λ (w : Published). cell_at w.cells p) is.published ∙ stands.cells p
-          ∙ ap (λ (t : Mapped Cell). cell_at t p) (sym is.base);
     }

@@ -20,7 +20,6 @@ pub record KeepsRest (old new : ControlState) : Type 0 where
   pub kinds : new.kinds ≡ old.kinds
   pub edits : new.edits ≡ old.edits
   pub marks : new.marks ≡ old.marks
-  pub published : new.published ≡ old.published
   pub pairs : new.engine.world.pairs ≡ old.engine.world.pairs
   pub base : new.engine.base ≡ old.engine.base
 
@@ -49,7 +48,6 @@ stands_by_pull {session = session} opening edits courses course peer gave more o
       kinds = rest.kinds;
       edits = rest.edits;
       marks = rest.marks;
-      published = rest.published;
       pairs = rest.pairs;
       base = rest.base;
     })
@@ -84,7 +82,6 @@ stands_still session opening edits courses course peer gave more control stands 
       kinds = refl;
       edits = refl;
       marks = refl;
-      published = refl;
       pairs = refl;
       base = refl;
     })

@@ -1,31 +1,32 @@
 -- What a control of many sessions stands for, and what its calls change. Our own choice.
-use Rattle.std.specs.Prelude.{◌≡◌, ℕ, ◌+◌, ◌≤◌, false, List, [], ◌∷◌, ◌++◌, length, map, Option, Some, Result}
-use Rattle.std.specs.Prelude.{slice_get, slice_set, sum}
+use Rattle.std.specs.Prelude.{◌≡◌, ℕ, ◌+◌, ◌≤◌, true, false, List, [], ◌∷◌, ◌++◌, length, map, take, Option, Some}
+use Rattle.std.specs.Prelude.{Result, slice_get, slice_set, sum, ◌<◌}
 use Rattle.std.specs.List.{AllByRecursion}
 use Rattle.urpf_base.specs.Address.{Block}
-use Rattle.urpf_base.specs.declared.address.Addr.{Addr}
-use Rattle.urpf_base.specs.declared.cells.CellChange.{CellChange}
+use Rattle.urpf_base.specs.Lists.{Has}
 use Rattle.urpf_base.specs.declared.kinds.Kind.{Kind}
 use Rattle.urpf_base.specs.declared.sessions.SessionConfig.{SessionConfig}
-use Rattle.urpf_base.specs.declared.verdicts.Verdict.{Verdict}
 use Rattle.adj_rib.specs.Routes.{prefixes_of}
+use Rattle.cover_table.specs.Snapshots.{Publication}
+use Rattle.cover_table.specs.declared.batch.Batch.{Batch}
 use Rattle.feed_io.specs.Events.{Event}
 use Rattle.origin_pairs.specs.Pairs.{IsPairSet, Pair}
 use Rattle.router_config.specs.Edits.{edited}
 use Rattle.router_config.specs.Settings.{Settings}
 use Rattle.router_config.specs.declared.edits.Edit.{Edit}
+use Rattle.router_config.specs.declared.edits.Edit.TheVariants as edit
 use Rattle.rpf_plain.specs.Cells.{AreChanges, IsDifference, IsTable, cell_at}
 use Rattle.rpf_plain.specs.Engine.{EngineState, IsDrained}
-use Rattle.rpf_plain.specs.Modes.{IsVerdict}
 use Rattle.rpf_plain.specs.World.{World, roles_of}
 use Rattle.session_fsm.specs.declared.items.Effect.{Effect}
+use Rattle.control_core.specs.declared.counted_engine.TheConstants.{PAIRS_MOST}
 use Rattle.control_core.specs.declared.limits.Limits.{Limits}
 use Rattle.control_core.specs.declared.limits.RunFault.{RunFault}
 use Rattle.control_core.specs.History.{StandsFor}
 use Rattle.control_core.specs.Slots.{CountsSlot, PullsSlot}
-use Rattle.control_core.specs.Judging.{Absorbs}
-use Rattle.control_core.specs.States.{ControlState, PeerState, Published}
-use Rattle.control_core.specs.Worlds.{Course, IsWorldAt, Opening, Position, last_number, pairs_edited}
+use Rattle.control_core.specs.States.{ControlState, PeerState}
+use Rattle.control_core.specs.Worlds.{Course, IsWorldAt, Opening, Position, kinds_after, last_number}
+use Rattle.control_core.specs.Worlds.{pairs_edited}
 
 -- how many items each session took
 abbrev pub items_of : List PeerState → List ℕ
@@ -56,8 +57,8 @@ pub record IsReached (mark now : Position) : Type 0 where
   pub items : AreAtMost mark.items now.items
 
 -- a control stands for an opening, edits and the course of each session: its kinds are those of the opening after the
--- edits, its engine has the world of now, its table is that of the world of the last mark, and it judges by the same
--- cells; no event and no edit is kept
+-- edits, its engine has the world of now, and the table of the engine is that of the world of the last mark; no event and
+-- no edit is kept
 pub record ControlStandsFor (opening : Opening) (edits : List Edit) (courses : List Course)
     (control : ControlState) : Type 0 where
   pub sessions : map (λ c. c.config) courses ≡ opening.settings.sessions
@@ -68,10 +69,21 @@ pub record ControlStandsFor (opening : Opening) (edits : List Edit) (courses : L
   pub marks : control.marks ≡ earlier ++ last ∷ []
   pub reached : IsReached last (position_of control last.number)
   pub now : IsWorldAt opening edits courses (position_of control last.number) control.kinds control.engine.world
+  pub marked_kinds : List (ℕ × Kind)
   pub marked : World
-  pub is_marked : IsWorldAt opening edits courses last control.published.kinds marked
+  pub is_marked : IsWorldAt opening edits courses last marked_kinds marked
   pub base : IsTable marked control.engine.base
-  pub cells : (p : Block) → cell_at control.published.cells p ≡ cell_at control.engine.base p
+
+-- a publication shows the last mark of a control: it has the number of the mark, the interfaces of the opening after the
+-- edits of the mark, and the cells of the table of the engine
+pub record IsShown (opening : Opening) (edits : List Edit) (control : ControlState)
+    (publication : Publication) : Type 0 where
+  pub earlier : List Position
+  pub last : Position
+  pub marks : control.marks ≡ earlier ++ last ∷ []
+  pub number : publication.number ≡ last.number
+  pub kinds : publication.kinds ≡ kinds_after (take last.edits edits) opening.settings.interfaces
+  pub cells : (p : Block) → cell_at publication.cells p ≡ cell_at control.engine.base p
 
 -- no event came to a session yet
 abbrev pub not_begun : SessionConfig → Course
@@ -103,12 +115,15 @@ pub record IsUnused (control : ControlState) : Type 0 where
 abbrev pub route_count : List PeerState → ℕ
 route_count peers = sum (map (λ p. length (prefixes_of p.routes)) peers)
 
--- the marks, the cells that are judged by and the limits are as they were
+-- the marks, the table of the engine at the last of them and the limits are as they were
 pub record KeepsPublished (old new : ControlState) : Type 0 where
   pub marks : new.marks ≡ old.marks
-  pub judged : new.published.kinds ≡ old.published.kinds
-  pub cells : (p : Block) → cell_at new.published.cells p ≡ cell_at old.published.cells p
+  pub base : new.engine.base ≡ old.engine.base
   pub limits : new.limits ≡ old.limits
+
+-- the control that memory was refused to: nothing else of it is changed
+abbrev pub refused : ControlState → ControlState
+refused control = record control { exhausted = true }
 
 -- the interfaces and the edits are as they were
 pub record KeepsKinds (old new : ControlState) : Type 0 where
@@ -162,6 +177,15 @@ pub record EditsSets (edit : Edit) (old new : EngineState) : Type 0 where
       → IsPairSet (pairs_edited edit pairs) new.world.pairs
   pub base : new.base ≡ old.base
 
+-- memory can be refused for the edit: it adds a pair that is not there, or one where there are as many as an engine is
+-- given
+abbrev pub CanBeRefused : Edit → EngineState → Type 0
+CanBeRefused (edit.Role iface role) engine = ⊥
+CanBeRefused (edit.Mode iface mode) engine = ⊥
+CanBeRefused (edit.PairAdd prefix asn) engine =
+    length engine.world.pairs < PAIRS_MOST → ¬ Has engine.world.pairs (prefix, asn)
+CanBeRefused (edit.PairDel prefix asn) engine = ⊥
+
 -- an edit counts, also where it changes nothing; the routes and the last publication are as they were
 pub record Edits (edit : Edit) (old new : ControlState) : Type 0 where
   pub kinds : new.kinds ≡ edited edit old.kinds
@@ -169,43 +193,37 @@ pub record Edits (edit : Edit) (old new : ControlState) : Type 0 where
   pub peers : new.peers ≡ old.peers
   pub published : KeepsPublished old new
 
--- a publication has the next number and a mark of now; nothing else is changed but what is judged by
-pub record Publishes (old new : ControlState) (answer : ℕ × ℕ) : Type 0 where
-  pub number : answer.0 ≡ last_number old.marks + 1
-  pub marks : new.marks ≡ old.marks ++ position_of old answer.0 ∷ []
-  pub kinds : new.published.kinds ≡ old.kinds
+-- a publication makes a mark of now under the next number, and its batch has that number, the interfaces of now and the
+-- cells that changed; the table of the engine is that of now, and nothing else is changed
+pub record Publishes (old new : ControlState) (batch : Batch) : Type 0 where
+  pub number : batch.number ≡ last_number old.marks + 1
+  pub interfaces : batch.kinds ≡ old.kinds
+  pub changed : AreChanges old.engine.world old.engine.base batch.changes
+  pub drained : IsDrained old.engine new.engine
+  pub marks : new.marks ≡ old.marks ++ position_of old batch.number ∷ []
   pub peers : new.peers ≡ old.peers
   pub limits : new.limits ≡ old.limits
   pub kept : KeepsKinds old new
 
--- the parts of a publication: the changes of the engine since its last drain are counted, a mark of these items and
--- edits is made, and the changes are taken over into what is judged by
+-- the parts of a publication: a mark of these items and edits is made, and its batch has the interfaces and the cells
+-- that changed since the last drain of the engine
 pub record PublishesParts (items : List ℕ) (edits : ℕ) (kinds : List (ℕ × Kind)) (old_sets new_sets : EngineState)
-    (old_marks new_marks : List Position) (old_shown new_shown : Published) (answer : ℕ × ℕ) : Type 0 where
-  pub changes : List CellChange
-  pub number : answer.0 ≡ last_number old_marks + 1
-  pub cells : answer.1 ≡ length changes
-  pub changed : AreChanges old_sets.world old_sets.base changes
+    (old_marks new_marks : List Position) (batch : Batch) : Type 0 where
+  pub number : batch.number ≡ last_number old_marks + 1
+  pub interfaces : batch.kinds ≡ kinds
+  pub changed : AreChanges old_sets.world old_sets.base batch.changes
   pub drained : IsDrained old_sets new_sets
-  pub marks : new_marks ≡ old_marks ++ record { number = answer.0; edits = edits; items = items } ∷ []
-  pub judged : new_shown.kinds ≡ kinds
-  pub absorbs : Absorbs changes old_shown.cells new_shown.cells
+  pub marks : new_marks ≡ old_marks ++ record { number = batch.number; edits = edits; items = items } ∷ []
 
--- a publication counts the cells that differ between the worlds of the last mark and of now
+-- the changes of a batch are exactly the cells that differ between the worlds of the last mark and of now
 pub record PublishesDifference (opening : Opening) (edits : List Edit) (courses : List Course)
-    (old new : ControlState) (answer : ℕ × ℕ) : Type 0 where
+    (old : ControlState) (batch : Batch) : Type 0 where
   pub earlier : List Position
   pub last : Position
   pub marks : old.marks ≡ earlier ++ last ∷ []
+  pub kinds_before : List (ℕ × Kind)
   pub before : World
-  pub was : IsWorldAt opening edits courses last old.published.kinds before
+  pub was : IsWorldAt opening edits courses last kinds_before before
   pub after : World
-  pub is : IsWorldAt opening edits courses (position_of old answer.0) new.published.kinds after
-  pub changes : List CellChange
-  pub difference : IsDifference before after changes
-  pub cells : answer.1 ≡ length changes
-
--- the verdict by what was published last
-abbrev pub IsVerdictNow : ControlState → World → ℕ → Addr → Verdict → Type 0
-IsVerdictNow control world iface addr answer =
-    IsVerdict control.published.kinds world.rows world.pairs iface (Some addr) answer
+  pub is : IsWorldAt opening edits courses (position_of old batch.number) batch.kinds after
+  pub difference : IsDifference before after batch.changes

@@ -1,3 +1,4 @@
+pub mod Batches
 pub mod Controls
 pub mod Effects
 pub mod EngineRows
@@ -5,7 +6,6 @@ pub mod FeedCalls
 pub mod History
 pub mod ItemSteps
 pub mod Items
-pub mod Judging
 pub mod Kept
 pub mod Loads
 pub mod Openings

@@ -1,9 +1,7 @@
 -- A session and a control, as contracts see them (RFC 4271, sections 3.2 and 8).
 use Rattle.std.specs.Prelude.{ℕ, Bool, List}
-use Rattle.urpf_base.specs.declared.cells.Cell.{Cell}
 use Rattle.urpf_base.specs.declared.kinds.Kind.{Kind}
 use Rattle.adj_rib.specs.Routes.{Routes}
-use Rattle.prefix_map.specs.Mapped.{Mapped}
 use Rattle.rpf_plain.specs.Engine.{EngineState}
 use Rattle.session_fsm.specs.Table.{SessionState}
 use Rattle.control_core.specs.declared.limits.Limits.{Limits}
@@ -20,19 +18,13 @@ pub record PeerState : Type 0 where
   pub octets : ℕ
   pub ended : Bool
 
--- a publication as it is judged by: the interfaces at its mark, and a table of the cells
-pub record Published : Type 0 where
-  pub kinds : List (ℕ × Kind)
-  pub cells : Mapped Cell
-
--- a control: its sessions, its interfaces and how often they were edited, its engine, the mark of each publication,
--- what was published last, its limits, and whether memory ran out before
+-- a control: its sessions, its interfaces and how often they were edited, its engine, the mark of each publication, its
+-- limits, and whether memory ran out before
 pub record ControlState : Type 0 where
   pub peers : List PeerState
   pub kinds : List (ℕ × Kind)
   pub edits : ℕ
   pub engine : EngineState
   pub marks : List Position
-  pub published : Published
   pub limits : Limits
   pub exhausted : Bool

@@ -1,5 +1,5 @@
-//! What a control does: it loads the pairs of a table, pulls the items of a session, takes edits,
-//! publishes cells under numbers, and judges sources by what was published last.
+//! What a control does: it loads the pairs of a table, pulls the items of a session, takes edits, and
+//! publishes the cells that changed in batches.
 ghost use Rattle.std.specs.Prelude.{◌≡◌, ◌^◌, ◌<◌, ◌≤◌, ◌↔◌, ℕ, List, [], ◌∷◌, ◌++◌, length, Option, Some, Err};
 ghost use Rattle.std.specs.Prelude.{IfOk, OnErr, OnOk, true, false, slice_get, slice_set};
 ghost use Rattle.urpf_base.specs.Faults.{CountsFault};
@@ -11,11 +11,10 @@ ghost use Rattle.router_config.specs.declared.edits.Edit.{Edit};
 ghost use Rattle.rpf_plain.specs.Engine.{new_engine};
 ghost use Rattle.rpf_plain.specs.World.{roles_of};
 ghost use Rattle.session_fsm.specs.declared.items.Effect.{Effect};
-ghost use Rattle.control_core.specs.Controls.{ControlStandsFor, CountsOne, Edits, IsOpened, IsUnused, IsVerdictNow};
+ghost use Rattle.control_core.specs.Controls.{CanBeRefused, ControlStandsFor, CountsOne, Edits, IsOpened, IsUnused};
 ghost use Rattle.control_core.specs.Controls.{KeepsKinds, KeepsPublished, LoadsPairs, Publishes};
-ghost use Rattle.control_core.specs.Controls.{PublishesDifference, PullsOne, goes_on, route_count, without_pairs};
+ghost use Rattle.control_core.specs.Controls.{PublishesDifference, PullsOne, goes_on, refused, route_count, without_pairs};
 ghost use Rattle.control_core.specs.History.{StandsFor};
-ghost use Rattle.control_core.specs.Judging.{JudgesBy};
 ghost use Rattle.control_core.specs.States.{PeerState};
 ghost use Rattle.control_core.specs.Worlds.{Course, Opening, last_number};
 ghost use Rattle.control_core.specs.declared.limits.Limits.{Limits};
@@ -25,17 +24,17 @@ use crate::counted_engine::CountedEngine;
 use crate::limits::{ITEM_LIMIT, Limits, OCTET_LIMIT, RunFault};
 use crate::marks::Marks;
 use crate::opening::{first_mark, peers_of};
-use crate::published::PublishedCells;
 use crate::publishing::publish_cells;
 use crate::pulling::{pull_one, wants_memory};
 use crate::set_edits::{add_pairs, edit_sets};
+use cover_table::Batch;
 use feed_io::{BoxedFeed, Feed};
 use report_text::put_summary;
 use roa_irr::Pairs;
 use router_config::{Config, Edit};
 use rpf_plain::SetEngine;
 use std::alloc::Global;
-use urpf_base::{Addr, IfaceId, Line, OutOfMemory, Sink, Verdict};
+use urpf_base::{Line, OutOfMemory, Sink};
 
 impl<E: SetEngine> Control<E> {
     /// The sessions of the configuration, which took no item, over an engine that has the configured
@@ -55,7 +54,6 @@ impl<E: SetEngine> Control<E> {
         let mut marks = Marks::new(alloc);
         marks.push(first_mark(alloc, config.sessions())?)?;
         let kinds = config.kinds()?;
-        let published = PublishedCells::new(alloc, config.kinds()?);
         Ok(Control {
             alloc,
             sets: CountedEngine::new(engine),
@@ -63,7 +61,6 @@ impl<E: SetEngine> Control<E> {
             kinds,
             edits: 0,
             marks,
-            published,
             limits,
             exhausted: false,
         })
@@ -141,7 +138,8 @@ impl<E: SetEngine> Control<E> {
     }
 
     /// Gives an interface another role or mode, or adds or removes a pair. It counts as an edit also
-    /// where it changes nothing.
+    /// where it changes nothing. Memory is refused only for a pair that is added and was not there, or
+    /// where there are 2^40 - 1 pairs. Nothing but the answers to later calls is changed then.
     pub fn edit(&mut self, edit: &Edit) -> Result<(), OutOfMemory>
         requires few { self.old.edits < 2 ^ 32 }
         requires configured { IsForConfigured self.old.kinds edit.now }
@@ -150,10 +148,8 @@ impl<E: SetEngine> Control<E> {
             → ControlStandsFor opening edits courses self.old
             → ControlStandsFor opening (edits ++ edit.now ∷ []) courses self.new) }
         ensures able { OnOk result ((self.old.exhausted ≡ false) × (self.new.exhausted ≡ false)) }
-        ensures err { OnErr result (self.new.exhausted ≡ true) }
-        ensures published { OnErr result (KeepsPublished self.old self.new) }
-        ensures kinds { OnErr result (KeepsKinds self.old self.new) }
-        ensures peers { OnErr result (self.new.peers ≡ self.old.peers) }
+        ensures err { OnErr result (self.new ≡ refused self.old) }
+        ensures memory { OnErr result (self.old.exhausted ≡ false → CanBeRefused edit.now self.old.engine) }
     {
         if self.exhausted {
             return Err(OutOfMemory);
@@ -167,22 +163,19 @@ impl<E: SetEngine> Control<E> {
         Ok(())
     }
 
-    /// Publishes the cells of now under the next number. Answers that number, and of how many prefixes
-    /// the cell changed since the last publication.
-    pub fn publish(&mut self) -> Result<(u64, u64), OutOfMemory>
+    /// Makes the next mark, and its batch: the next number, the interfaces of now, and the cells that
+    /// changed since the last mark, each with its cell now. Where memory is refused no mark is made.
+    pub fn publish_batch(&mut self) -> Result<Batch, OutOfMemory>
         requires { last_number self.old.marks < 2 ^ 32 }
         ensures ok { IfOk result (Publishes self.old self.new) }
         ensures difference { (opening : Opening) (edits : List Edit) (courses : List Course)
             → ControlStandsFor opening edits courses self.old
-            → IfOk result (PublishesDifference opening edits courses self.old self.new) }
+            → IfOk result (PublishesDifference opening edits courses self.old) }
         ensures stands { OnOk result ((opening : Opening) (edits : List Edit) (courses : List Course)
             → ControlStandsFor opening edits courses self.old
             → ControlStandsFor opening edits courses self.new) }
         ensures able { OnOk result ((self.old.exhausted ≡ false) × (self.new.exhausted ≡ false)) }
-        ensures err { OnErr result (self.new.exhausted ≡ true) }
-        ensures published { OnErr result (KeepsPublished self.old self.new) }
-        ensures kinds { OnErr result (KeepsKinds self.old self.new) }
-        ensures peers { OnErr result (self.new.peers ≡ self.old.peers) }
+        ensures err { OnErr result (self.new ≡ refused self.old) }
     {
         if self.exhausted {
             return Err(OutOfMemory);
@@ -194,13 +187,12 @@ impl<E: SetEngine> Control<E> {
             &self.kinds,
             &mut self.sets,
             &mut self.marks,
-            &mut self.published,
         );
-        let Ok(answer) = published else {
+        let Ok(batch) = published else {
             self.exhausted = true;
             return Err(OutOfMemory);
         };
-        Ok(answer)
+        Ok(batch)
     }
 
     /// The marks of the publications, mark 0 first.
@@ -215,16 +207,6 @@ impl<E: SetEngine> Control<E> {
         ensures { result ≡ last_number self.now.marks }
     {
         self.marks.last_number()
-    }
-
-    /// The verdict of the last publication on an address that comes in on this interface.
-    pub fn judge(&self, iface: IfaceId, addr: &Addr) -> Verdict
-        ensures cells { JudgesBy self.now.published iface addr.now result }
-        ensures sets { (opening : Opening) (edits : List Edit) (courses : List Course)
-            (stands : ControlStandsFor opening edits courses self.now)
-            → IsVerdictNow self.now stands.marked iface addr.now result }
-    {
-        self.published.judge(iface, addr)
     }
 
     /// Appends the line of the routes that the sessions have now, and of the pairs, to an empty line.

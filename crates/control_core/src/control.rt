@@ -1,19 +1,18 @@
-//! The control of the router: the sessions that it serves, the engine of the source sets, and what it
-//! published last.
+//! The control of the router: the sessions that it serves, the engine of the source sets, and the
+//! marks of what it published.
 
 use crate::counted_engine::CountedEngine;
 use crate::limits::Limits;
 use crate::marks::Marks;
 use crate::peering::Peering;
-use crate::published::PublishedCells;
 use router_config::Kinds;
 use rpf_plain::SetEngine;
 use std::alloc::Global;
 use std::marker::Model;
 
-/// Sessions with their routes, an engine with the rows of them, and the last publication. Once it has
-/// answered want of memory it answers so to every later call that can. Contracts see it as a record
-/// of these.
+/// Sessions with their routes, an engine with the rows of them, and a mark for each publication. Once
+/// it has answered want of memory it answers so to every later call that can. Contracts see it as a
+/// record of these.
 #[derive(Drop)]
 pub struct Control<E: SetEngine> {
     pub(crate) alloc: Global,
@@ -22,7 +21,6 @@ pub struct Control<E: SetEngine> {
     pub(crate) kinds: Kinds,
     pub(crate) edits: u64,
     pub(crate) marks: Marks,
-    pub(crate) published: PublishedCells,
     pub(crate) limits: Limits,
     pub(crate) exhausted: bool,
 }
@@ -46,7 +44,6 @@ impl<E: SetEngine> Model for Control<E> {
       edits = c.edits;
       engine = c.sets;
       marks = c.marks;
-      published = c.published;
       limits = c.limits;
       exhausted = c.exhausted;
     } };

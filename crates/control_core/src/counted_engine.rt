@@ -1,10 +1,10 @@
 //! An engine with the numbers of its rows and of its pairs, so that it is never asked to take more
 //! than it may have.
-ghost use Rattle.std.specs.Prelude.{◌≡◌, [], OnOk, OnErr, IfOk, Ok, true, false, length};
+ghost use Rattle.std.specs.Prelude.{◌≡◌, ◌⊎◌, ◌<◌, ◌≤◌, ◌^◌, [], OnOk, OnErr, IfOk, IsOk, Ok, true, false, length};
 ghost use Rattle.urpf_base.specs.Lists.{Has};
 ghost use Rattle.rpf_plain.specs.Engine.{AddsPair, AddsRow, RemovesPair, RemovesRow, SetsRole, IsDrained};
 ghost use Rattle.rpf_plain.specs.Cells.{AreChanges};
-ghost use Rattle.rpf_plain.specs.Rows.{row_of};
+ghost use Rattle.rpf_plain.specs.Rows.{repeats, row_of};
 ghost use Rattle.rpf_plain.specs.World.{IsConfigured};
 
 use rpf_plain::SetEngine;
@@ -12,10 +12,10 @@ use std::marker::Model;
 use urpf_base::{Changes, IfaceId, Origin, OutOfMemory, Prefix, Role};
 
 /// The most rows that an engine is given: one less than 2^40.
-const ROWS_MOST: u64 = 0xFF_FFFF_FFFF;
+pub const ROWS_MOST: u64 = 0xFF_FFFF_FFFF;
 
 /// The most pairs that an engine is given: one less than 2^40.
-const PAIRS_MOST: u64 = 0xFF_FFFF_FFFF;
+pub const PAIRS_MOST: u64 = 0xFF_FFFF_FFFF;
 
 /// An engine, and how many rows and pairs it has. Contracts see what they see of the engine.
 #[derive(Drop)]
@@ -69,7 +69,8 @@ impl<E: SetEngine> CountedEngine<E> {
         self.pairs
     }
 
-    /// Adds one row. Where memory is refused, or there are 2^40 - 1 rows, nothing is changed.
+    /// Adds one row. A refusal comes where there are 2^40 - 1 rows, and else only where the row is not
+    /// there, or is there 2^32 times. Nothing is changed then.
     pub fn add_row(
         &mut self,
         iface: IfaceId,
@@ -79,6 +80,10 @@ impl<E: SetEngine> CountedEngine<E> {
         requires { IsConfigured self.old.world.roles iface }
         ensures ok { OnOk result (AddsRow (row_of iface prefix origin) self.old self.new) }
         ensures err { OnErr result (self.new ≡ self.old) }
+        ensures absent { OnErr result (length self.old.world.rows < ROWS_MOST
+            → (repeats self.old.world.rows (row_of iface prefix origin) ≡ 0)
+            ⊎ (2 ^ 32 ≤ repeats self.old.world.rows (row_of iface prefix origin))) }
+        ensures full { OnOk result (length self.old.world.rows < ROWS_MOST) }
     {
         if self.rows >= ROWS_MOST {
             return Err(OutOfMemory);
@@ -97,22 +102,26 @@ impl<E: SetEngine> CountedEngine<E> {
         self.rows -= 1;
     }
 
-    /// Gives an interface this role.
+    /// Gives an interface this role. It is never refused.
     pub fn set_role(&mut self, iface: IfaceId, role: Role) -> Result<(), OutOfMemory>
         requires { IsConfigured self.old.world.roles iface }
         ensures ok { OnOk result (SetsRole iface role self.old self.new) }
         ensures err { OnErr result (self.new ≡ self.old) }
+        ensures sure { IsOk result }
     {
         self.engine.set_role(iface, role)
     }
 
-    /// Adds a pair. Whether it is new. Where memory is refused, or there are 2^40 - 1 pairs, nothing
-    /// is changed.
+    /// Adds a pair. Whether it is new. A refusal comes where there are 2^40 - 1 pairs, and else only
+    /// where the pair is not there. Nothing is changed then.
     pub fn add_pair(&mut self, prefix: Prefix, asn: u32) -> Result<bool, OutOfMemory>
         ensures added { result ≡ Ok true → AddsPair (prefix, asn) self.old self.new }
         ensures there { result ≡ Ok false
             → Has self.old.world.pairs (prefix, asn) × (self.new ≡ self.old) }
         ensures err { OnErr result (self.new ≡ self.old) }
+        ensures absent { OnErr result (length self.old.world.pairs < PAIRS_MOST
+            → ¬ Has self.old.world.pairs (prefix, asn)) }
+        ensures full { OnOk result (length self.old.world.pairs < PAIRS_MOST) }
     {
         if self.pairs >= PAIRS_MOST {
             return Err(OutOfMemory);

@@ -8,11 +8,13 @@ ghost use Rattle.session_fsm.specs.declared.states.State.{State};
 ghost use Rattle.control_core.specs.Items.{AreItems, IsRest, Item, SameButCuts};
 ghost use Rattle.control_core.specs.Runs.{Runs};
 
+use crate::counted_engine::{PAIRS_MOST, ROWS_MOST};
 use crate::limits::{ITEM_LIMIT, OCTET_LIMIT};
 
 /// The limits have these numbers. Contracts and definitions cite them by name.
 pub fn assigned_limits()
-    ensures { (ITEM_LIMIT ≡ 1000000000) × (OCTET_LIMIT ≡ 4398046511104) }
+    ensures feeds { (ITEM_LIMIT ≡ 1000000000) × (OCTET_LIMIT ≡ 4398046511104) }
+    ensures engine { (ROWS_MOST ≡ 1099511627775) × (PAIRS_MOST ≡ 1099511627775) }
 {}
 
 /// Events have a list of items, and only one.

@@ -1,6 +1,6 @@
 //! The marks of a run: where it was at each publication.
-ghost use Rattle.std.specs.Prelude.{◌≡◌, [], ◌∷◌, ◌++◌, OnOk, OnErr};
-ghost use Rattle.control_core.specs.Worlds.{last_number};
+ghost use Rattle.std.specs.Prelude.{◌≡◌, List, [], ◌∷◌, ◌++◌, OnOk, OnErr};
+ghost use Rattle.control_core.specs.Worlds.{Position, last_number};
 
 use std::alloc::Global;
 use std::marker::Model;
@@ -91,6 +91,13 @@ impl Marks {
             return Err(OutOfMemory);
         };
         Ok(())
+    }
+
+    /// Takes the last mark back, where there is one.
+    pub(crate) fn take_back(&mut self)
+        ensures { (marks : List Position) (mark : Position) → self.old ≡ marks ++ mark ∷ [] → self.new ≡ marks }
+    {
+        self.items.pop();
     }
 
     /// The number of the last mark.

@@ -4,7 +4,7 @@ ghost use Rattle.urpf_base.specs.declared.kinds.Role.{Role};
 ghost use Rattle.origin_pairs.specs.Pairs.{IsPairSet};
 ghost use Rattle.router_config.specs.declared.edits.Edit.{Edit};
 ghost use Rattle.rpf_plain.specs.World.{IsConfigured};
-ghost use Rattle.control_core.specs.Controls.{EditsSets};
+ghost use Rattle.control_core.specs.Controls.{CanBeRefused, EditsSets};
 ghost use Rattle.control_core.specs.Loads.{GrowsPairs};
 
 use crate::counted_engine::CountedEngine;
@@ -31,12 +31,13 @@ pub fn add_pairs<E: SetEngine>(
 }
 
 /// Gives the interface of the edit its role, or adds or removes its pair. Nothing is changed where
-/// the edit names a mode, and where memory is refused.
+/// the edit names a mode, and where memory is refused, which it can be for a pair that is added alone.
 pub fn edit_sets<E: SetEngine>(sets: &mut CountedEngine<E>, edit: &Edit) -> Result<(), OutOfMemory>
     requires { (iface : ℕ) (role : Role) → edit.now ≡ Edit.Role iface role
         → IsConfigured sets.old.world.roles iface }
     ensures ok { OnOk result (EditsSets edit.now sets.old sets.new) }
     ensures err { OnErr result (sets.new ≡ sets.old) }
+    ensures memory { OnErr result (CanBeRefused edit.now sets.old) }
 {
     match *edit {
         Edit::Role(iface, role) => sets.set_role(iface, role),
@@ -57,6 +58,7 @@ fn add_one<E: SetEngine>(
 ) -> Result<(), OutOfMemory>
     ensures ok { OnOk result (EditsSets (Edit.PairAdd prefix asn) sets.old sets.new) }
     ensures err { OnErr result (sets.new ≡ sets.old) }
+    ensures memory { OnErr result (CanBeRefused (Edit.PairAdd prefix asn) sets.old) }
 {
     sets.add_pair(prefix, asn)?;
     Ok(())

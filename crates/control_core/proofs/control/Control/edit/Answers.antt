@@ -32,7 +32,6 @@ returns-clause-stands g c opening edits courses stands =
       edits = inside.edits;
       engine = inside.sets;
       marks = inside.marks;
-      published = inside.published;
       limits = inside.limits;
       exhausted = inside.exhausted;
     } in
@@ -42,7 +41,6 @@ returns-clause-stands g c opening edits courses stands =
       edits = inside.edits + 1;
       engine = c.edit_sets.new.sets;
       marks = inside.marks;
-      published = inside.published;
       limits = inside.limits;
       exhausted = inside.exhausted;
     } in
@@ -57,7 +55,6 @@ returns-clause-stands g c opening edits courses stands =
       edits = refl;
       peers = refl;
       marks = refl;
-      published = refl;
       pairs = c.in-Ok.ensures.ok.pairs;
       base = c.in-Ok.ensures.ok.base;
     })

@@ -34,7 +34,6 @@ returns-clause-ok g c =
       edits = inside.edits;
       engine = inside.sets;
       marks = inside.marks;
-      published = inside.published;
       limits = inside.limits;
       exhausted = inside.exhausted;
     } in
@@ -44,12 +43,11 @@ returns-clause-ok g c =
       edits = inside.edits;
       engine = c.add_pairs.new.sets;
       marks = inside.marks;
-      published = inside.published;
       limits = inside.limits;
       exhausted = inside.exhausted;
     } in
     let kinds : KeepsKinds old new = record { kinds = refl; edits = refl } in
-    let published : KeepsPublished old new = record { marks = refl; judged = refl; cells = λ p. refl; limits = refl } in
+    let published : KeepsPublished old new = record { marks = refl; base = c.add_pairs.ensures.grows.base; limits = refl } in
     let loads : LoadsPairs table old new c.pairs.result = record {
       pairs = c.in-Ok.ensures.ok;
       count = c.pairs.ensures;
@@ -68,7 +66,6 @@ returns-clause-opened g c settings limits was =
       edits = inside.edits;
       engine = inside.sets;
       marks = inside.marks;
-      published = inside.published;
       limits = inside.limits;
       exhausted = inside.exhausted;
     } in
@@ -78,7 +75,6 @@ returns-clause-opened g c settings limits was =
       edits = inside.edits;
       engine = c.add_pairs.new.sets;
       marks = inside.marks;
-      published = inside.published;
       limits = inside.limits;
       exhausted = inside.exhausted;
     } in
@@ -92,7 +88,6 @@ returns-clause-opened g c settings limits was =
       kinds = refl;
       edits = refl;
       marks = refl;
-      published = refl;
       limits = refl;
       exhausted = refl;
       base = c.add_pairs.ensures.grows.base;

@@ -1,6 +1,5 @@
 use Rattle.std.proofs.Common.{◌≡◌, ℕ, false, List, [], ◌∷◌, ◌++◌, map, refl, sym, ap, subst, ◌∙◌}
 use Rattle.origin_pairs.specs.Pairs.{IsPairSet}
-use Rattle.rpf_plain.specs.Cells.{cell_at}
 use Rattle.rpf_plain.specs.Engine.{EngineState, new_engine}
 use Rattle.rpf_plain.specs.World.{roles_of}
 use Rattle.control_core.specs.Controls.{first_mark, without_pairs}
@@ -31,7 +30,6 @@ returns g c =
       edits = 0;
       engine = c.new.result;
       marks = c.push.new.self;
-      published = c.new-published.result;
       limits = c.args.limits;
       exhausted = false;
     } in
@@ -46,8 +44,7 @@ returns g c =
     opened (without_pairs c.args.config) c.args.limits control c.in_ok-peers.ensures.stand c.in_ok-peers.ensures.unmet
     c.in_ok-kinds.ensures.value refl (ap (λ (e : EngineState). e.base) engine)
     (subst (λ (e : EngineState). IsPairSet [] e.world.pairs) (sym engine) (own_set [] tt)) marks
-    (c.new-published.ensures.kinds ∙ c.in_ok-kinds-2.ensures.value)
-    (λ p. ap (λ t. cell_at t p) c.new-published.ensures.cells) refl refl
+    refl refl
     (subst (λ ks. IsKept control.peers ks c.new.result c.args.limits) (sym c.in_ok-kinds.ensures.value)
     (kept_new interfaces sessions control.peers c.new.result c.args.limits c.in_ok-peers.ensures engine
     c.requires.items))

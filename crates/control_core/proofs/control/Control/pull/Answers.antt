@@ -36,7 +36,6 @@ returns-clause-stands g c = λ opening edits courses course peer gave more stand
       kinds = refl;
       edits = refl;
       marks = refl;
-      published = refl;
       pairs = c.pull_one-result.ensures.pairs;
       base = c.pull_one-result.ensures.base;
     })

@@ -1,5 +1,5 @@
 -- Words and a stream come to one end.
-use Rattle.std.proofs.Common.{true, ◌≡◌, ◌⊎◌, ℕ, suc, ◌+◌, ◌≤◌, List, [], ◌∷◌, ◌++◌, length, take, drop, Option, Some}
+use Rattle.std.proofs.Common.{true, ◌≡◌, ◌⊎◌, ℕ, suc, ◌+◌, ◌<◌, ◌≤◌, List, [], ◌∷◌, ◌++◌, length, take, drop, Option, Some}
 use Rattle.std.proofs.Common.{None, IfSome, IsSomeAnd, inl, inr, refl, ap, sym, subst, ◌∙◌, arith}
 use Rattle.urpf_base.specs.declared.address.Addr.{Addr}
 use Rattle.urpf_base.specs.RouteUpdates.{RouteUpdate}
@@ -219,6 +219,16 @@ one_stream_status fault.OutOfMemory (fault.Header other at) is = absurd cc
 one_stream_status fault.OutOfMemory (fault.Update other at) is = absurd cc
 one_stream_status fault.OutOfMemory (fault.Unsupported at) is = absurd cc
 one_stream_status fault.OutOfMemory fault.OutOfMemory is = refl
+
+-- want of memory is told for nothing else
+pub memory_told : (f : SessionFault) (s : Status) → s ≡ status_of_stream f → s ≡ OutOfMemory → f ≡ fault.OutOfMemory
+memory_told f s is memory = one_stream_status f fault.OutOfMemory (sym is ∙ memory)
+
+-- a stream that was read and is not empty is told as one that is not
+pub some_stream : (left : Option (List ℕ)) (stream : List ℕ) → IfSome left (λ all. stream ≡ all) → 0 < length stream
+    → IfSome left (λ all. 0 < length all)
+some_stream None stream whole some = tt
+some_stream (Some all) stream whole some = subst (λ (s : List ℕ). 0 < length s) whole some
 
 -- no other end has the status of a fault of the stream
 pub not_of_stream : (f : SessionFault) (s : Status)

@@ -34,7 +34,7 @@ line_more rows k row is =
     ∙ ap (λ t. t ++ row.1 ∷ []) (sym (take-map (λ r. r.1) k rows))
 
 -- the steps of one line more
-steps_more : (sessions : ℕ) (rows : List (ℕ × BookLine)) (k : ℕ) (row : ℕ × BookLine) → slice_get rows k ≡ Some row
+pub steps_more : (sessions : ℕ) (rows : List (ℕ × BookLine)) (k : ℕ) (row : ℕ × BookLine) → slice_get rows k ≡ Some row
     → steps_of sessions (take (k + 1) (lines_in rows))
     ≡ steps_of sessions (take k (lines_in rows)) ++ steps_in sessions row.1
 steps_more sessions rows k row is =

@@ -1,6 +1,6 @@
 -- Words, texts and a number of sessions open one run, or decide one refusal, and never both.
 use Rattle.std.proofs.Common.{◌≡◌, ◌⊎◌, ℕ, List, length, refl, sym, ap, subst, ◌∙◌, inl, inr}
-use Rattle.std.proofs.Common.{Option, Some, IfSome, Result, Ok, Err, min}
+use Rattle.std.proofs.Common.{Option, Some, None, IfSome, Result, Ok, Err, min}
 use Rattle.router_config.specs.declared.faults.ConfigFault.{ConfigFault}
 use Rattle.router_config.specs.Settings.{IsConfig, Settings}
 use Rattle.router_config.specs.Settings as settings
@@ -217,6 +217,12 @@ module _ (words : List (List ℕ)) (texts : Texts) (given : ℕ) where
 told : (P : List ℕ → Type 0) (left : Option (List ℕ)) (text : List ℕ) → IfSome left P → left ≡ Some text → P text
 told P left text holds is = subst (λ o. IfSome o P) is holds
 
+-- a text that is told configures something
+pub some_configured : (left : Option (List ℕ)) (config : Settings) → IfSome left (λ text. Configures text config)
+    → IfSome left (λ text. (settings : Settings) × Configures text settings)
+some_configured None config found = tt
+some_configured (Some text) config found = (config, found)
+
 -- the texts that three sources tell
 module _ (words : List (List ℕ)) (config book pairs : Option (List ℕ)) (texts : Texts)
     (are : AreTold config book pairs texts) (fit : AreOfflineWords words) where
@@ -238,6 +244,16 @@ module _ (words : List (List ℕ)) (config book pairs : Option (List ℕ)) (text
     }
 
     module _ (rows : List (ℕ × BookLine)) (listed : IfSome book (λ t. IsRunbook s t rows)) where
+      -- a configuration and a runbook that were read
+      pub texts_good : (settings : Settings) × (rows : List (ℕ × BookLine)) × Configures texts.config settings
+          × IsRunbook settings texts.book rows
+      texts_good = (
+        s,
+        rows,
+        told (λ t. Configures t s) config texts.config configured are.configuration,
+        told (λ t. IsRunbook s t rows) book texts.book listed are.runbook,
+      )
+
       -- a table of pairs that was refused
       pub pairs_told : (r : TextRefusal TooManyPairs)
           → (¬ (IsTextFailure r) → IfSome pairs (λ t. IsPairsRefused fit.pairs t r)) → ¬ (IsTextFailure r)

@@ -1,5 +1,5 @@
 -- What the steps of a run that are no pulls give, and where they lead.
-use Rattle.std.proofs.Common.{◌≡◌, ℕ, ◌+◌, false, List, [], ◌∷◌, ◌++◌, length, map, take, refl, arith}
+use Rattle.std.proofs.Common.{◌≡◌, ℕ, ◌+◌, false, List, [], ◌∷◌, ◌++◌, length, map, take, Some, refl, arith}
 use Rattle.std.proofs.Common.{sym, ap, subst, ◌∙◌}
 use Rattle.std.specs.List.{AllZip}
 use Rattle.std.proofs.lemmas.List.{take_all, take_at}
@@ -9,71 +9,74 @@ use Rattle.urpf_base.specs.declared.verdicts.Verdict.{Verdict}
 use Rattle.adj_rib.specs.Routes.{prefixes_of}
 use Rattle.report_text.specs.Lines.{check_line, publish_line, summary_line}
 use Rattle.urpf_base.specs.declared.kinds.Kind.{Kind}
+use Rattle.cover_table.specs.Judging.{judge}
+use Rattle.cover_table.specs.Snapshots.{Publication}
+use Rattle.cover_table.specs.declared.batch.Batch.{Batch}
 use Rattle.origin_pairs.specs.Pairs.{IsPairSet}
 use Rattle.router_config.proofs.Configured.{edited_kind_at}
 use Rattle.router_config.specs.Configured.{IsConfigured}
 use Rattle.router_config.specs.Settings.{Settings}
 use Rattle.router_config.specs.declared.edits.Edit.{Edit}
 use Rattle.session_fsm.specs.declared.items.Effect.{Effect}
-use Rattle.control_core.specs.Controls.{AllStand, ControlStandsFor, Edits, IsVerdictNow, Publishes, PublishesDifference}
+use Rattle.control_core.specs.Controls.{AllStand, ControlStandsFor, Edits, Publishes, PublishesDifference}
 use Rattle.control_core.specs.Controls.{items_of, position_of, route_count}
 use Rattle.control_core.specs.Effects.{HoldsSoMany}
 use Rattle.control_core.specs.States.{ControlState, PeerState}
-use Rattle.control_core.specs.Worlds.{Course, IsWorldAt, Position, last_number, pairs_after}
+use Rattle.control_core.specs.Worlds.{Course, IsWorldAt, Position, pairs_after}
 use Rattle.control_core.proofs.Held.{holds_so_many}
 use Rattle.control_core.proofs.Publications.{at_most_self}
+use Rattle.control_core.proofs.Shown.{one_last, shown_verdict}
 use Rattle.urpf_cli.specs.Inputs.{Input, Run, opening_of}
 use Rattle.urpf_cli.specs.PairTables.{pairs_in}
 use Rattle.urpf_cli.specs.Places.{Place, Reached, mark_at, next_place}
 use Rattle.urpf_cli.specs.RunText.{CheckGives, IsWorldOf, LeaveRoutes, PublishGives, SummaryGives}
-use Rattle.urpf_cli.specs.Runs.{AreSessionsAt, IsAt, Serves}
+use Rattle.urpf_cli.specs.Runs.{AreSessionsAt, IsAt, Serves, Shows}
 use Rattle.urpf_cli.specs.Slots.{Slot}
 use Rattle.urpf_cli.specs.Steps.{change, publish, round}
 use Rattle.urpf_cli.proofs.SessionsAt.{IsFront}
-use Rattle.urpf_cli.proofs.WorldsOf.{fronts_at, mark_reached, mark_same, number_at, one_last, world_whole}
+use Rattle.urpf_cli.proofs.WorldsOf.{fronts_at, mark_reached, mark_same, number_at, world_whole}
 
 -- what a publication gives
 pub published_gives : (run : Run) (place : Place) (old new : ControlState) (rounds : ℕ)
-    (slots : List Slot) (answer : ℕ × ℕ) (text : List ℕ)
-    → (s : IsAt run place old rounds slots) → Publishes old new answer
-    → PublishesDifference (opening_of run) place.edits s.courses old new answer
-    → text ≡ publish_line answer.0 old.edits answer.1 (items_of old.peers) → PublishGives run place text
-published_gives run place old new rounds slots answer text s publishes d is =
+    (slots : List Slot) (batch : Batch) (text : List ℕ)
+    → (s : IsAt run place old rounds slots) → Publishes old new batch
+    → PublishesDifference (opening_of run) place.edits s.courses old batch
+    → text ≡ publish_line batch.number old.edits (length batch.changes) (items_of old.peers)
+    → PublishGives run place text
+published_gives run place old new rounds slots batch text s publishes d is =
     let last : d.last ≡ place.mark = one_last old.marks d.earlier s.earlier d.last place.mark d.marks s.marks in
-    let number : answer.0 ≡ place.mark.number + 1 =
+    let number : batch.number ≡ place.mark.number + 1 =
     publishes.number ∙ ap (λ (n : ℕ). n + 1) (number_at run place old rounds slots s) in
-    let now : position_of old answer.0 ≡ mark_at place (place.mark.number + 1) =
-    mark_same run place old rounds slots answer.0 s ∙ ap (mark_at place) number in
+    let now : position_of old batch.number ≡ mark_at place (place.mark.number + 1) =
+    mark_same run place old rounds slots batch.number s ∙ ap (mark_at place) number in
+    let cells : ℕ = length batch.changes in
     record {
-      old_kinds = old.published.kinds;
+      old_kinds = d.kinds_before;
       old = d.before;
-      was = world_whole run place old rounds slots place.mark old.published.kinds d.before s
+      was = world_whole run place old rounds slots place.mark d.kinds_before d.before s
           (mark_reached run place old rounds slots s)
-          (subst (λ (mark : Position). IsWorldAt (opening_of run) place.edits s.courses mark old.published.kinds
-          d.before)
+          (subst (λ (mark : Position). IsWorldAt (opening_of run) place.edits s.courses mark d.kinds_before d.before)
           last d.was);
-      new_kinds = new.published.kinds;
+      new_kinds = batch.kinds;
       new = d.after;
-      is = subst (λ (mark : Position). IsWorldOf run place mark new.published.kinds d.after) now
-          (world_whole run place old rounds slots (position_of old answer.0) new.published.kinds d.after s
+      is = subst (λ (mark : Position). IsWorldOf run place mark batch.kinds d.after) now
+          (world_whole run place old rounds slots (position_of old batch.number) batch.kinds d.after s
           (at_most_self (items_of old.peers)) d.is);
-      changes = d.changes;
+      changes = batch.changes;
       difference = d.difference;
-      same = is ∙ ap (λ (n : ℕ). publish_line n old.edits answer.1 (items_of old.peers)) number
-          ∙ ap (λ (n : ℕ). publish_line (place.mark.number + 1) n answer.1 (items_of old.peers)) s.stands.counted
-          ∙ ap (λ (n : ℕ). publish_line (place.mark.number + 1) (length place.edits) n (items_of old.peers)) d.cells
-          ∙ ap (λ (mark : Position). publish_line (place.mark.number + 1) (length place.edits) (length d.changes)
-          mark.items) now;
+      same = is ∙ ap (λ (n : ℕ). publish_line n old.edits cells (items_of old.peers)) number
+          ∙ ap (λ (n : ℕ). publish_line (place.mark.number + 1) n cells (items_of old.peers)) s.stands.counted
+          ∙ ap (λ (mark : Position). publish_line (place.mark.number + 1) (length place.edits) cells mark.items) now;
     }
 
 -- and where it leads
 pub published_at : (run : Run) (place : Place) (old new : ControlState) (rounds : ℕ)
-    (slots : List Slot) (answer : ℕ × ℕ)
-    → (s : IsAt run place old rounds slots) → Publishes old new answer
+    (slots : List Slot) (batch : Batch)
+    → (s : IsAt run place old rounds slots) → Publishes old new batch
     → ControlStandsFor (opening_of run) place.edits s.courses new → new.exhausted ≡ false
     → IsAt run (next_place run.inputs publish place) new rounds slots
-published_at run place old new rounds slots answer s publishes stands able =
-    let number : answer.0 ≡ place.mark.number + 1 =
+published_at run place old new rounds slots batch s publishes stands able =
+    let number : batch.number ≡ place.mark.number + 1 =
     publishes.number ∙ ap (λ (n : ℕ). n + 1) (number_at run place old rounds slots s) in
     record {
       whole = s.whole;
@@ -84,7 +87,7 @@ published_at run place old new rounds slots answer s publishes stands able =
       earlier = old.marks;
       marks = publishes.marks
           ∙ ap (λ (mark : Position). old.marks ++ mark ∷ [])
-          (mark_same run place old rounds slots answer.0 s ∙ ap (mark_at place) number);
+          (mark_same run place old rounds slots batch.number s ∙ ap (mark_at place) number);
       limits = publishes.limits ∙ s.limits;
       able = able;
       ended = s.ended;
@@ -92,24 +95,27 @@ published_at run place old new rounds slots answer s publishes stands able =
 
 -- what a check gives
 pub check_gives : (run : Run) (place : Place) (control : ControlState) (rounds : ℕ)
-    (slots : List Slot) (iface : ℕ) (addr : Addr) (verdict : Verdict) (number : ℕ) (text : List ℕ)
-    → (s : IsAt run place control rounds slots) → IsVerdictNow control s.stands.marked iface addr verdict
-    → number ≡ last_number control.marks → text ≡ check_line iface addr verdict number
+    (slots : List Slot) (iface : ℕ) (addr : Addr) (shown : Publication) (text : List ℕ)
+    → IsAt run place control rounds slots → Shows run place control shown
+    → text ≡ check_line iface addr (judge shown iface (Some addr)) shown.number
     → CheckGives run place iface addr text
-check_gives run place control rounds slots iface addr verdict number text s judges is_number is =
-    let last : s.stands.last ≡ place.mark =
+check_gives run place control rounds slots iface addr shown text s shows is =
+    let marked : s.stands.last ≡ place.mark =
     one_last control.marks s.stands.earlier s.earlier s.stands.last place.mark s.stands.marks s.marks in
+    let last : shows.last ≡ place.mark =
+    one_last control.marks shows.earlier s.earlier shows.last place.mark shows.marks s.marks in
+    let verdict : Verdict = judge shown iface (Some addr) in
     record {
-      kinds = control.published.kinds;
+      kinds = s.stands.marked_kinds;
       world = s.stands.marked;
-      is = world_whole run place control rounds slots place.mark control.published.kinds s.stands.marked s
+      is = world_whole run place control rounds slots place.mark s.stands.marked_kinds s.stands.marked s
           (mark_reached run place control rounds slots s)
-          (subst (λ (mark : Position). IsWorldAt (opening_of run) place.edits s.courses mark control.published.kinds
-          s.stands.marked) last s.stands.is_marked);
+          (subst (λ (mark : Position). IsWorldAt (opening_of run) place.edits s.courses mark s.stands.marked_kinds
+          s.stands.marked) marked s.stands.is_marked);
       verdict = verdict;
-      judges = judges;
+      judges = shown_verdict (opening_of run) place.edits s.courses control shown s.stands shows iface (Some addr);
       same = is
-          ∙ ap (λ (n : ℕ). check_line iface addr verdict n) (is_number ∙ number_at run place control rounds slots s);
+          ∙ ap (λ (n : ℕ). check_line iface addr verdict n) (shows.number ∙ ap (λ (mark : Position). mark.number) last);
     }
 
 -- the routes that the sessions have are those that their items leave

@@ -13,7 +13,7 @@ use Rattle.bgp_wire.specs.declared.kinds.MsgKind.{MsgKind}
 use Rattle.bgp_wire.specs.declared.kinds.MsgKind.TheVariants.{Update}
 use Rattle.bgp_wire.proofs.Headers.{header_fault-append}
 use Rattle.bgp_wire.proofs.Framings.{has_framing, lt_or_le}
-use Rattle.urpf_cli.specs.Session.{Says, SaysBy, SayAll, IsFaultAt, StopsAt, Leaves}
+use Rattle.urpf_cli.specs.Session.{Says, SaysBy, SayAll, IsFaultAt, IsRead, StopsAt, Leaves}
 
 -- the messages in front were read, and said this
 pub record Progress (stream rest : List ℕ) (said : List (Option RouteUpdate)) : Type 0 where
@@ -48,6 +48,20 @@ say-length [] [] say = refl
 say-length [] (s ∷ ss) say = absurd say
 say-length (m ∷ ms) [] say = absurd say
 say-length (m ∷ ms) (s ∷ ss) say = ap (λ n. suc n) (say-length ms ss say.1)
+
+-- where there are messages there are octets
+long_of : (ms : List (List ℕ)) → AllByRecursion IsMessage ms → 0 < length ms → 0 < length (concat ms)
+long_of [] each some = absurd (omega (arith, some))
+long_of (m ∷ ms) each some = omega (arith, each.0.header, length-append m (concat ms))
+
+-- a stream that says something is not empty
+pub read_some : (stream : List ℕ) (said : List (Option RouteUpdate)) (rest : List ℕ) → IsRead stream said rest
+    → 0 < length said → 0 < length stream
+read_some stream said rest read some =
+    let messages = read.messages in
+    let long =
+    long_of messages read.framed.each (omega (arith, some, say-length messages said read.say)) in
+    omega (arith, long, ap length read.framed.parts, length-append (concat messages) rest)
 
 -- a message stands between those before it and what comes after it
 concat-between : (before after : List (List ℕ)) (m rest : List ℕ)

@@ -1,6 +1,5 @@
 -- The worlds of a run, out of those of its control.
-use Rattle.std.proofs.Common.{◌≡◌, ℕ, List, [], ◌∷◌, ◌++◌, length, Option, Some, None, refl, sym, ap, subst}
-use Rattle.std.proofs.Common.{◌∙◌, unwrap_or}
+use Rattle.std.proofs.Common.{◌≡◌, ℕ, List, length, ap, subst, ◌∙◌}
 use Rattle.std.specs.Prelude.{◌↔◌}
 use Rattle.std.specs.List.{AllZip}
 use Rattle.urpf_base.specs.Lists.{Has}
@@ -10,6 +9,7 @@ use Rattle.control_core.specs.Controls.{AreAtMost, items_of, position_of}
 use Rattle.control_core.specs.States.{ControlState}
 use Rattle.control_core.specs.Worlds.{IsWorldAt, Position, last_number}
 use Rattle.control_core.proofs.LastMarks.{last_number-push}
+use Rattle.control_core.proofs.Shown.{one_last}
 use Rattle.urpf_cli.specs.Inputs.{Run, opening_of}
 use Rattle.urpf_cli.specs.Places.{Place, mark_at}
 use Rattle.urpf_cli.specs.RunText.{IsWorldOf}
@@ -45,24 +45,6 @@ world_whole run place control rounds slots mark kinds world s most w = record {
       (rows_whole s.courses run.inputs control.peers mark.items row
       (fronts_at run place control rounds slots s) s.stands.stand most) (w.rows row);
 }
-
-last_of : List Position → Option Position
-last_of [] = None
-last_of (mark ∷ []) = Some mark
-last_of (mark ∷ later ∷ marks) = last_of (later ∷ marks)
-
-last_of-push : (marks : List Position) (mark : Position) → last_of (marks ++ mark ∷ []) ≡ Some mark
-unfolding last_of
-last_of-push [] mark = refl
-last_of-push (m ∷ []) mark = refl
-last_of-push (m ∷ n ∷ marks) mark = last_of-push (n ∷ marks) mark
-
--- a list of marks has one last mark
-pub one_last : (marks : List Position) (a b : List Position) (x y : Position) → marks ≡ a ++ x ∷ []
-    → marks ≡ b ++ y ∷ [] → x ≡ y
-one_last marks a b x y first second =
-    ap (λ (o : Option Position). unwrap_or o x)
-    (sym (last_of-push a x) ∙ ap last_of (sym first ∙ second) ∙ last_of-push b y)
 
 -- the number of the last mark of the control is that of the place
 pub number_at : (run : Run) (place : Place) (control : ControlState) (rounds : ℕ) (slots : List Slot)

@@ -4,6 +4,7 @@ use Rattle.std.specs.Prelude.{◌↔◌, take, None, Result, Ok, Err}
 use Rattle.std.specs.List.{concat}
 use Rattle.std.specs.Io.KnownBytes.{Appends}
 use Rattle.urpf_base.specs.Faults.{Rose}
+use Rattle.cover_table.specs.Snapshots.{Publication}
 use Rattle.feed_io.specs.Events.{Event}
 use Rattle.router_config.specs.Configured.{IsConfigured}
 use Rattle.router_config.specs.Settings.{Settings}
@@ -13,7 +14,7 @@ use Rattle.control_core.specs.declared.limits.RunFault.{RunFault}
 use Rattle.control_core.specs.declared.limits.RunFault.TheVariants.{ItemLimit, OctetLimit, OutOfMemory, ReadFault}
 use Rattle.control_core.specs.declared.limits.RunFault.TheVariants.{WriteFault}
 use Rattle.control_core.specs.declared.limits.TheConstants.{ITEM_LIMIT, OCTET_LIMIT}
-use Rattle.control_core.specs.Controls.{ControlStandsFor}
+use Rattle.control_core.specs.Controls.{ControlStandsFor, IsShown}
 use Rattle.control_core.specs.Items.{SameButCuts, octet_count}
 use Rattle.control_core.specs.Slots.{CountsSlot}
 use Rattle.control_core.specs.States.{ControlState, PeerState}
@@ -67,6 +68,10 @@ pub record IsAt (run : Run) (place : Place) (control : ControlState) (rounds : �
   pub limits : control.limits ≡ run_limits
   pub able : control.exhausted ≡ false
   pub ended : rounds ≡ place.rounds
+
+-- the publication shows the last mark of a run at this place
+abbrev pub Shows : Run → Place → ControlState → Publication → Type 0
+Shows run place control shown = IsShown (opening_of run) place.edits control shown
 
 -- a sink took such a text
 pub record TookAll (IsText : List ℕ → Type 0) (old new : Option (List ℕ)) : Type 0 where

@@ -1,6 +1,7 @@
 //! `check SESSION SOURCE`: words, a recorded session and a sink come in. The line that says whether
 //! the session's routes admit the source goes to the sink, and how the command ended goes out.
-ghost use Rattle.std.specs.Prelude.{None, ◌≡◌, ◌↔◌, ◌⊎◌, [], ℕ, OnOk, IfErr, IfSome, IsSomeAnd, map, string_bytes};
+ghost use Rattle.std.specs.Prelude.{None, ◌≡◌, ◌↔◌, ◌⊎◌, ◌<◌, [], ℕ, Err, OnOk, OnErr, IfErr, IfSome, IsSomeAnd, length, map};
+ghost use Rattle.std.specs.Prelude.{string_bytes};
 ghost use Rattle.urpf_base.specs.declared.address.Addr.{Addr};
 ghost use Rattle.urpf_base.specs.Address.{Block};
 ghost use Rattle.urpf_base.specs.Faults.{CountsFault, Rose};
@@ -10,6 +11,7 @@ ghost use Rattle.urpf_cli.specs.CheckOne.{CheckEnd, ComesTo, HasFaultOrMemory, I
 ghost use Rattle.urpf_cli.specs.Session.{updates_of};
 ghost use Rattle.urpf_cli.specs.Statuses.{IsCheckStatus, status_of_check, status_of_stream};
 ghost use Rattle.urpf_cli.specs.Words.{AreCheckWords};
+ghost use Rattle.urpf_cli.specs.declared.session.SessionFault.{SessionFault};
 
 use crate::session::{SessionFault, read_session};
 use crate::status::{Object, Status};
@@ -53,11 +55,16 @@ pub fn check_one<S: Source, K: Sink>(
         → ¬ Rose (K.faults out.old) (K.faults out.new)
         → (result ≡ status_of_check end) ⊎ (result ≡ Status.OutOfMemory) }
 
+    // An empty stream is judged without memory.
+    ensures memory { result ≡ Status.OutOfMemory → IfSome (S.left session.old)
+        (λ stream. 0 < length stream) }
+
     // What the sink took.
     ensures done { result ≡ Status.Done → IfSome (S.left session.old)
         (λ stream. WritesLine (map string_bytes words.now) stream (K.held out.old) (K.held out.new)) }
     ensures cut_short { result ≡ Status.WriteFault → IfSome (S.left session.old)
         (λ stream. WritesFront (map string_bytes words.now) stream (K.held out.old) (K.held out.new)) }
+    ensures misused { result ≡ Status.Usage → session.new ≡ session.old }
     ensures quiet { (result ≡ Status.Done → ⊥) → (result ≡ Status.WriteFault → ⊥)
         → out.new ≡ out.old }
 {
@@ -86,6 +93,7 @@ fn judge(alloc: Global, stream: &[u8], source: &Addr, line: &mut Line) -> Result
     requires { line.old ≡ [] }
     ensures ok { OnOk result (IsCheckLine stream.now source.now line.new) }
     ensures err { IfErr result (HasFaultOrMemory stream.now) }
+    ensures memory { result ≡ Err SessionFault.OutOfMemory → 0 < length stream.now }
 {
     let session = match read_session(alloc, stream) {
         Ok(session) => session,
@@ -105,7 +113,8 @@ fn judge(alloc: Global, stream: &[u8], source: &Addr, line: &mut Line) -> Result
 /// Takes all items into the empty table.
 fn take_all(rib: &mut AdjRib, items: &[Option<UpdateView<'_>>]) -> Result<(), OutOfMemory>
     requires { (p : Block) → routes_at rib.old p ≡ None }
-    ensures { OnOk result (HoldsRoutes (updates_of items.now) rib.new) }
+    ensures ok { OnOk result (HoldsRoutes (updates_of items.now) rib.new) }
+    ensures memory { OnErr result (0 < length items.now) }
 {
     for item in items {
         apply_item(rib, item.as_ref())?;

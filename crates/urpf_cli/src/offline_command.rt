@@ -1,16 +1,21 @@
 //! `offline CONFIG BOOK PAIRS S...`: runs a runbook over a table of pairs and the feeds of the sessions
 //! of a configuration.
-ghost use Rattle.std.specs.Prelude.{◌≡◌, ◌↔◌, ◌⊎◌, List, Result, length, map, string_bytes};
+ghost use Rattle.std.specs.Prelude.{◌≡◌, ◌↔◌, ◌⊎◌, ℕ, IfSome, List, Result, length, map, string_bytes};
 ghost use Rattle.urpf_base.specs.Faults.{CountsFault, Rose};
 ghost use Rattle.feed_io.specs.Events.{Event};
+ghost use Rattle.router_config.specs.Settings.{Settings};
+ghost use Rattle.router_config.specs.declared.faults.ConfigFault.{ConfigFault};
+ghost use Rattle.runbook.specs.declared.book.BookFault.{BookFault};
+ghost use Rattle.runbook.specs.declared.lines.BookLine.{BookLine};
 ghost use Rattle.control_core.specs.declared.limits.RunFault.{RunFault};
 ghost use Rattle.control_core.specs.Turns.{HadMemory};
 ghost use Rattle.urpf_cli.specs.declared.refusals.Refusal.{Refusal};
+ghost use Rattle.urpf_cli.specs.declared.refusals.TextRefusal.{TextRefusal};
 ghost use Rattle.urpf_cli.specs.Offline.{IsBelowLimits, RanText, TookRunFront};
-ghost use Rattle.urpf_cli.specs.Openings.{AreTold, IsBeforePairs, IsDecided, IsRefused, Texts};
+ghost use Rattle.urpf_cli.specs.Openings.{AreTold, Configures, IsBeforePairs, IsDecided, IsRefused, IsRunbook, Texts};
 ghost use Rattle.urpf_cli.specs.Runs.{CountEach, NoneRose};
 ghost use Rattle.urpf_cli.specs.Slots.{filled, slots_of};
-ghost use Rattle.urpf_cli.specs.Statuses.{IsRunStatus, status_of_refusal, status_of_run};
+ghost use Rattle.urpf_cli.specs.Statuses.{IsRunStatus, status_of_book, status_of_config, status_of_refusal, status_of_run};
 ghost use Rattle.urpf_cli.specs.Words.{AreOfflineWords, nowhere};
 
 use crate::opening::{Opening, open_run};
@@ -72,6 +77,23 @@ pub fn offline<S: Source, K: Sink>(
         → result ≡ status_of_refusal r → (feeds.new ≡ feeds.old) × (out.new ≡ out.old) }
     ensures unread { (r : Refusal) → (status_of_refusal r ≡ Status.OutOfMemory → ⊥)
         → result ≡ status_of_refusal r → IsBeforePairs r → pairs.new ≡ pairs.old }
+    ensures misused { result ≡ Status.Usage → (config.new ≡ config.old) × (book.new ≡ book.old)
+        × (pairs.new ≡ pairs.old) × (feeds.new ≡ feeds.old) × (out.new ≡ out.old) }
+    ensures unasked { (r : Refusal) (t : Texts)
+        → AreTold (S.left config.old) (S.left book.old) (S.left pairs.old) t
+        → IsRefused (map string_bytes words.now) t (length feeds.old.items) r
+        → (feeds.new ≡ feeds.old) × (out.new ≡ out.old) }
+    // A text is read only where those before it are good.
+    ensures book_after { (r : TextRefusal ConfigFault) → (status_of_config r ≡ Status.OutOfMemory → ⊥)
+        → result ≡ status_of_config r → book.new ≡ book.old }
+    ensures pairs_after { (r : TextRefusal BookFault) → (status_of_book r ≡ Status.OutOfMemory → ⊥)
+        → result ≡ status_of_book r → pairs.new ≡ pairs.old }
+    ensures config_before { result ≡ Status.ReadFault Object.Book → IfSome (S.left config.old)
+        (λ text. (settings : Settings) × Configures text settings) }
+    ensures texts_before { (t : Texts) → result ≡ Status.ReadFault Object.Pairs
+        → AreTold (S.left config.old) (S.left book.old) (S.left pairs.old) t
+        → (settings : Settings) × (rows : List (ℕ × BookLine)) × Configures t.config settings
+        × IsRunbook settings t.book rows }
     ensures nowhere { (are : AreOfflineWords (map string_bytes words.now)) → are.pairs ≡ nowhere
         → pairs.new ≡ pairs.old }
 

@@ -12,6 +12,7 @@ ghost use Rattle.runbook.specs.declared.book.BookFault.{BookFault};
 ghost use Rattle.runbook.specs.declared.lines.BookLine.{BookLine};
 ghost use Rattle.urpf_cli.specs.declared.refusals.Refusal.{Refusal};
 ghost use Rattle.urpf_cli.specs.declared.refusals.TextRefusal.{TextRefusal};
+ghost use Rattle.urpf_cli.specs.declared.refusals.TooManyPairs.{TooManyPairs};
 ghost use Rattle.urpf_cli.specs.Openings.{AreTold, Configures, IsBookRefused, IsConfigRefused, IsDecided, IsFailure};
 ghost use Rattle.urpf_cli.specs.Openings.{IsReady, IsRefused, IsRunbook, Opens, Texts};
 ghost use Rattle.urpf_cli.specs.TextRefusals.{IsTextFailure};
@@ -86,6 +87,13 @@ pub fn open_run<S: Source>(
         → (book.new ≡ book.old) × (pairs.new ≡ pairs.old) }
     ensures unread { (r : TextRefusal BookFault) → result ≡ Err (Refusal.Book r)
         → pairs.new ≡ pairs.old }
+    // A text is read only where those before it are good.
+    ensures config_before { (r : TextRefusal BookFault) → result ≡ Err (Refusal.Book r)
+        → IfSome (S.left config.old) (λ text. (settings : Settings) × Configures text settings) }
+    ensures texts_before { (r : TextRefusal TooManyPairs) (t : Texts) → result ≡ Err (Refusal.Pairs r)
+        → AreTold (S.left config.old) (S.left book.old) (S.left pairs.old) t
+        → (settings : Settings) × (rows : List (ℕ × BookLine)) × Configures t.config settings
+        × IsRunbook settings t.book rows }
     ensures nowhere { (are : AreOfflineWords (map string_bytes words.now)) → are.pairs ≡ nowhere
         → pairs.new ≡ pairs.old }
 {

@@ -5,6 +5,7 @@ ghost use Rattle.std.specs.Io.KnownBytes.{Appends};
 ghost use Rattle.urpf_base.specs.Faults.{CountsFault};
 ghost use Rattle.urpf_base.specs.declared.sessions.SessionConfig.{SessionConfig};
 ghost use Rattle.origin_pairs.specs.Pairs.{IsPairSet, Pair};
+ghost use Rattle.cover_table.specs.Snapshots as snapshots;
 ghost use Rattle.router_config.specs.Settings.{Settings};
 ghost use Rattle.runbook.specs.Book.{AreConfiguredFor};
 ghost use Rattle.control_core.specs.declared.limits.RunFault.{RunFault};
@@ -14,12 +15,13 @@ ghost use Rattle.urpf_cli.specs.Inputs.{IsRun, Run, opening_of};
 ghost use Rattle.urpf_cli.specs.PairTables.{pairs_in, skipped_in};
 ghost use Rattle.urpf_cli.specs.Places.{opening};
 ghost use Rattle.urpf_cli.specs.RunText.{AreTotals, head_text};
-ghost use Rattle.urpf_cli.specs.Runs.{CountEach, IsAt, NamesSession, RanBook, RanSteps, Serves, TookFront, run_limits};
+ghost use Rattle.urpf_cli.specs.Runs.{CountEach, IsAt, NamesSession, RanBook, RanSteps, Serves, Shows, TookFront, run_limits};
 ghost use Rattle.urpf_cli.specs.Slots.{slots_of, told_by};
 ghost use Rattle.urpf_cli.specs.Steps.{lines_in, steps_of};
 
 use crate::run_line::{put_last_mark, take_line};
 use control_core::{Control, ITEM_LIMIT, Limits, Marks, OCTET_LIMIT, RunFault, offer};
+use cover_table::Snapshot;
 use feed_io::{BoxedFeed, Feed};
 use report_text::{put_done, put_run};
 use roa_irr::Pairs;
@@ -61,16 +63,17 @@ pub fn run_book<K: Sink>(
     ensures feeds { CountEach ⟦<BoxedFeed as Feed>⟧.faults (λ s. result ≡ Err (RunFault.ReadFault s)) feeds.old.items feeds.new.items }
     ensures sink { CountsFault (result ≡ Err RunFault.WriteFault) (K.faults out.old) (K.faults out.new) }
 {
-    let (mut control, totals) = match open_control(alloc, config, pairs) {
+    let (mut control, mut snapshot, totals) = match open_control(alloc, config, pairs) {
         Ok(opened) => opened,
         Err(OutOfMemory) => return Err(RunFault::OutOfMemory),
     };
-    run_control(&mut control, &totals, book, feeds, out)
+    run_control(&mut control, &mut snapshot, &totals, book, feeds, out)
 }
 
-/// Runs the book over a control at its opening, which has so much.
+/// Runs the book over a control at its opening, which has so much, and a snapshot that shows its mark.
 fn run_control<E: SetEngine, K: Sink>(
     control: &mut Control<E>,
+    snapshot: &mut Snapshot,
     totals: &Totals,
     book: &Book,
     feeds: &mut Vec<Option<BoxedFeed>>,
@@ -81,6 +84,7 @@ fn run_control<E: SetEngine, K: Sink>(
     requires slots { length feeds.old.items ≡ length control.old.peers }
     requires few { length book.now < 2 ^ 32 }
     ensures ran { (run : Run) → IsOpened (opening_of run) run_limits control.old
+        → Shows run (opening run.config.sessions) control.old snapshot.old
         → AreTotals run.config run.table totals.now → IsRun run → slots_of ⟦<BoxedFeed as Feed>⟧.left feeds.old.items ≡ told_by run
         → RanBook run (lines_in book.now) result (slots_of ⟦<BoxedFeed as Feed>⟧.left feeds.new.items) (K.held out.old) (K.held out.new) }
     ensures names { IfErr result (NamesSession (length control.old.peers)) }
@@ -90,7 +94,7 @@ fn run_control<E: SetEngine, K: Sink>(
     if let Err(fault) = open_run(totals, control.marks(), out) {
         return Err(fault);
     }
-    if let Err(fault) = take_lines(control, book, feeds, out) {
+    if let Err(fault) = take_lines(control, snapshot, book, feeds, out) {
         return Err(fault);
     }
     let mut text = Line::new();
@@ -98,18 +102,20 @@ fn run_control<E: SetEngine, K: Sink>(
     offer(&text, out)
 }
 
-/// The control of the sessions at the opening, with the pairs of the table where there is one, and how
-/// much there is.
+/// The control of the sessions at the opening, with the pairs of the table where there is one, a
+/// snapshot of its interfaces, and how much there is.
 fn open_control(
     alloc: Global,
     config: Config,
     pairs: &Option<Pairs>,
-) -> Result<(Control<PlainEngine>, Totals), OutOfMemory>
+) -> Result<(Control<PlainEngine>, Snapshot, Totals), OutOfMemory>
     ensures opened { IfOk result (λ o. IsOpened (record { settings = config; pairs = pairs_in pairs.now }) run_limits o.0) }
-    ensures totals { IfOk result (λ o. AreTotals config pairs.now o.1) }
+    ensures shown { IfOk result (λ o. o.1 ≡ snapshots.opening config.interfaces) }
+    ensures totals { IfOk result (λ o. AreTotals config pairs.now o.2) }
 {
     let interfaces = config.interfaces() as u64;
     let sessions = config.sessions() as u64;
+    let snapshot = Snapshot::new(alloc, config.kinds()?);
     let mut control = new_control(alloc, config)?;
     let distinct = load_table(&mut control, pairs)?;
     let totals = Totals {
@@ -118,7 +124,7 @@ fn open_control(
         pairs: distinct,
         skipped: skipped(pairs),
     };
-    Ok((control, totals))
+    Ok((control, snapshot, totals))
 }
 
 /// The control of the sessions without pairs, over an engine that computes the sets anew, within the
@@ -189,6 +195,7 @@ fn open_run<K: Sink>(totals: &Totals, marks: &Marks, out: &mut K) -> Result<(), 
 /// Takes all lines of the book, from the opening on.
 fn take_lines<E: SetEngine, K: Sink>(
     control: &mut Control<E>,
+    snapshot: &mut Snapshot,
     book: &Book,
     feeds: &mut Vec<Option<BoxedFeed>>,
     out: &mut K,
@@ -199,6 +206,7 @@ fn take_lines<E: SetEngine, K: Sink>(
     requires edits { control.old.edits ≡ 0 }
     requires number { last_number control.old.marks ≡ 0 }
     ensures ran { (run : Run) → IsAt run (opening run.config.sessions) control.old 0 (slots_of ⟦<BoxedFeed as Feed>⟧.left feeds.old.items)
+        → Shows run (opening run.config.sessions) control.old snapshot.old
         → (rounds : ℕ) × RanSteps run (opening run.config.sessions)
         (steps_of (length control.old.peers) (lines_in book.now)) result control.new rounds
         (slots_of ⟦<BoxedFeed as Feed>⟧.left feeds.new.items) (K.held out.old) (K.held out.new) }
@@ -210,7 +218,7 @@ fn take_lines<E: SetEngine, K: Sink>(
     let mut k = 0;
     while k < book.len() {
         let (_, line) = book.line(k);
-        if let Err(fault) = take_line(control, &mut rounds, &line, feeds, out) {
+        if let Err(fault) = take_line(control, snapshot, &mut rounds, &line, feeds, out) {
             return Err(fault);
         }
         k += 1;

@@ -1,23 +1,26 @@
 //! What one line of a runbook does to a run, and which lines of output it gives.
-ghost use Rattle.std.specs.Prelude.{◌≡◌, ◌+◌, ◌^◌, ◌<◌, ◌≤◌, [], ◌∷◌, ◌++◌, Err, IfErr, List, ℕ, Option, Some};
+ghost use Rattle.std.specs.Prelude.{◌≡◌, ◌+◌, ◌^◌, ◌<◌, ◌≤◌, [], ◌∷◌, ◌++◌, Err, IfErr, List, ℕ, OnOk, Option, Some};
 ghost use Rattle.std.specs.Prelude.{length};
 ghost use Rattle.urpf_base.specs.Faults.{CountsFault};
 ghost use Rattle.report_text.specs.Lines.{publish_line};
 ghost use Rattle.router_config.specs.Edits.{IsForConfigured};
+ghost use Rattle.router_config.specs.declared.edits.Edit.{Edit};
 ghost use Rattle.router_config.specs.Settings.{Settings};
 ghost use Rattle.runbook.specs.Book.{IsConfiguredFor};
 ghost use Rattle.runbook.specs.declared.lines.BookLine.{BookLine};
+ghost use Rattle.control_core.specs.Controls.{ControlStandsFor, IsShown, KeepsPublished};
 ghost use Rattle.control_core.specs.States.{ControlState};
-ghost use Rattle.control_core.specs.Worlds.{Position, last_number};
+ghost use Rattle.control_core.specs.Worlds.{Course, Opening, Position, last_number};
 ghost use Rattle.control_core.specs.declared.limits.RunFault.{RunFault};
 ghost use Rattle.urpf_cli.specs.Inputs.{Run};
-ghost use Rattle.urpf_cli.specs.Places.{Place};
-ghost use Rattle.urpf_cli.specs.Runs.{CountEach, CountsOn, IsAt, NamesSession, RanStep, RanSteps, Serves};
+ghost use Rattle.urpf_cli.specs.Places.{Place, place_after};
+ghost use Rattle.urpf_cli.specs.Runs.{CountEach, CountsOn, IsAt, NamesSession, RanStep, RanSteps, Serves, Shows};
 ghost use Rattle.urpf_cli.specs.Slots.{Slot, slots_of};
 ghost use Rattle.urpf_cli.specs.Steps as steps;
 ghost use Rattle.urpf_cli.specs.Steps.{pulls_of, steps_in};
 
 use control_core::{Control, Marks, RunFault, offer};
+use cover_table::{Batch, Snapshot};
 use feed_io::{BoxedFeed, Feed};
 use report_text::{put_check, put_mark, put_round};
 use router_config::Edit;
@@ -28,6 +31,7 @@ use urpf_base::{Addr, IfaceId, Line, OutOfMemory, Sink};
 /// Does what the line asks for, and offers what it gives to the sink.
 pub fn take_line<E: SetEngine, K: Sink>(
     control: &mut Control<E>,
+    snapshot: &mut Snapshot,
     rounds: &mut u64,
     line: &BookLine,
     feeds: &mut Vec<Option<BoxedFeed>>,
@@ -39,8 +43,13 @@ pub fn take_line<E: SetEngine, K: Sink>(
     requires number { last_number control.old.marks < 2 ^ 32 }
     requires rounds { rounds.old < 2 ^ 32 }
     ensures ran { (run : Run) (place : Place) → IsAt run place control.old rounds.old (slots_of ⟦<BoxedFeed as Feed>⟧.left feeds.old.items)
+        → Shows run place control.old snapshot.old
         → RanSteps run place (steps_in (length control.old.peers) line.now) result control.new rounds.new
         (slots_of ⟦<BoxedFeed as Feed>⟧.left feeds.new.items) (K.held out.old) (K.held out.new) }
+    ensures shown { (run : Run) (place : Place) → IsAt run place control.old rounds.old (slots_of ⟦<BoxedFeed as Feed>⟧.left feeds.old.items)
+        → Shows run place control.old snapshot.old
+        → OnOk result (Shows run (place_after run.inputs (steps_in (length control.old.peers) line.now) place)
+        control.new snapshot.new) }
     ensures names { IfErr result (NamesSession (length control.old.peers)) }
     ensures serves { (config : Settings) → Serves config control.old → Serves config control.new }
     ensures counts { CountsOn control.old control.new }
@@ -50,9 +59,9 @@ pub fn take_line<E: SetEngine, K: Sink>(
 {
     match line {
         BookLine::Pull { session, count } => pull_named(control, feeds, *session, *count, out),
-        BookLine::Publish => publish(control, out),
+        BookLine::Publish => publish(control, snapshot, out),
         BookLine::Round => end_round(rounds, out),
-        BookLine::Check { iface, addr } => check(control, *iface, addr, out),
+        BookLine::Check { iface, addr } => check(snapshot, *iface, addr, out),
         BookLine::Change(edit) => change(control, edit),
         BookLine::Summary => summarize(control, out),
     }
@@ -75,6 +84,7 @@ fn pull_named<E: SetEngine, K: Sink>(
         rounds (slots_of ⟦<BoxedFeed as Feed>⟧.left feeds.new.items) (K.held out.old) (K.held out.new) }
     ensures names { IfErr result (NamesSession (length control.old.peers)) }
     ensures serves { (config : Settings) → Serves config control.old → Serves config control.new }
+    ensures published { KeepsPublished control.old control.new }
     ensures counts { CountsOn control.old control.new }
     ensures feeds { CountEach ⟦<BoxedFeed as Feed>⟧.faults (λ s. result ≡ Err (RunFault.ReadFault s)) feeds.old.items feeds.new.items }
     ensures sink { CountsFault (result ≡ Err RunFault.WriteFault) (K.faults out.old) (K.faults out.new) }
@@ -100,6 +110,7 @@ fn pull_each<E: SetEngine, K: Sink>(
         (slots_of ⟦<BoxedFeed as Feed>⟧.left feeds.new.items) (K.held out.old) (K.held out.new) }
     ensures names { IfErr result (NamesSession (length control.old.peers)) }
     ensures serves { (config : Settings) → Serves config control.old → Serves config control.new }
+    ensures published { KeepsPublished control.old control.new }
     ensures counts { CountsOn control.old control.new }
     ensures feeds { CountEach ⟦<BoxedFeed as Feed>⟧.faults (λ s. result ≡ Err (RunFault.ReadFault s)) feeds.old.items feeds.new.items }
     ensures sink { CountsFault (result ≡ Err RunFault.WriteFault) (K.faults out.old) (K.faults out.new) }
@@ -129,6 +140,7 @@ fn pull<E: SetEngine, K: Sink>(
         (slots_of ⟦<BoxedFeed as Feed>⟧.left feeds.new.items) (K.held out.old) (K.held out.new) }
     ensures names { IfErr result (NamesSession (length control.old.peers)) }
     ensures serves { (config : Settings) → Serves config control.old → Serves config control.new }
+    ensures published { KeepsPublished control.old control.new }
     ensures edits { control.new.edits ≡ control.old.edits }
     ensures number { last_number control.new.marks ≡ last_number control.old.marks }
     ensures feeds { CountEach ⟦<BoxedFeed as Feed>⟧.faults (λ s. result ≡ Err (RunFault.ReadFault s)) feeds.old.items feeds.new.items }
@@ -137,26 +149,43 @@ fn pull<E: SetEngine, K: Sink>(
     control.pull(feeds, session, count, out)
 }
 
-/// Publishes, and offers the line of the publication.
-fn publish<E: SetEngine, K: Sink>(control: &mut Control<E>, out: &mut K) -> Result<(), RunFault>
+/// Publishes: the snapshot takes the batch over, and the line of the publication is offered.
+fn publish<E: SetEngine, K: Sink>(
+    control: &mut Control<E>,
+    snapshot: &mut Snapshot,
+    out: &mut K,
+) -> Result<(), RunFault>
     requires number { last_number control.old.marks < 2 ^ 32 }
     requires sessions { length control.old.peers ≤ 128 }
     ensures ran { (run : Run) (place : Place) (rounds : ℕ) (slots : List Slot)
         → IsAt run place control.old rounds slots
         → RanStep run place steps.publish result control.new rounds slots (K.held out.old) (K.held out.new) }
+    ensures shown { (opening : Opening) (edits : List Edit) (courses : List Course)
+        → ControlStandsFor opening edits courses control.old → IsShown opening edits control.old snapshot.old
+        → OnOk result (IsShown opening edits control.new snapshot.new) }
     ensures err { IfErr result (NamesSession 0) }
     ensures serves { (config : Settings) → Serves config control.old → Serves config control.new }
     ensures edits { control.new.edits ≡ control.old.edits }
     ensures number { last_number control.new.marks ≤ last_number control.old.marks + 1 }
     ensures sink { CountsFault (result ≡ Err RunFault.WriteFault) (K.faults out.old) (K.faults out.new) }
 {
-    let (_, cells) = match control.publish() {
-        Ok(published) => published,
+    let batch = match control.publish_batch() {
+        Ok(batch) => batch,
         Err(OutOfMemory) => return Err(RunFault::OutOfMemory),
     };
+    if let Err(OutOfMemory) = snapshot.absorb(&batch) {
+        return Err(RunFault::OutOfMemory);
+    }
     let mut text = Line::new();
-    put_last_mark(control.marks(), cells, &mut text);
+    put_last_mark(control.marks(), cells_of(&batch), &mut text);
     offer(&text, out)
+}
+
+/// How many cells the batch changes.
+fn cells_of(batch: &Batch) -> u64
+    ensures { result ≡ length batch.now.changes }
+{
+    batch.changes.items().len() as u64
 }
 
 /// Writes the line of the last mark, at which so many cells changed.
@@ -188,23 +217,23 @@ fn end_round<K: Sink>(rounds: &mut u64, out: &mut K) -> Result<(), RunFault>
     offer(&text, out)
 }
 
-/// Judges the address at the last publication, and offers the line of the check.
-fn check<E: SetEngine, K: Sink>(
-    control: &Control<E>,
+/// Judges the address by the snapshot, and offers the line of the check.
+fn check<K: Sink>(
+    snapshot: &Snapshot,
     iface: IfaceId,
     addr: &Addr,
     out: &mut K,
 ) -> Result<(), RunFault>
-    ensures ran { (run : Run) (place : Place) (rounds : ℕ) (slots : List Slot)
-        → IsAt run place control.now rounds slots
-        → RanStep run place (steps.check iface addr.now) result control.now rounds slots
+    ensures ran { (run : Run) (place : Place) (control : ControlState) (rounds : ℕ) (slots : List Slot)
+        → IsAt run place control rounds slots → Shows run place control snapshot.now
+        → RanStep run place (steps.check iface addr.now) result control rounds slots
         (K.held out.old) (K.held out.new) }
     ensures err { IfErr result (NamesSession 0) }
     ensures sink { CountsFault (result ≡ Err RunFault.WriteFault) (K.faults out.old) (K.faults out.new) }
 {
     let mut text = Line::new();
-    let verdict = control.judge(iface, addr);
-    put_check(iface, addr, verdict, control.number(), &mut text);
+    let verdict = snapshot.check(iface.number(), Some(*addr));
+    put_check(iface, addr, verdict, snapshot.number(), &mut text);
     offer(&text, out)
 }
 
@@ -215,6 +244,7 @@ fn change<E: SetEngine>(control: &mut Control<E>, edit: &Edit) -> Result<(), Run
     ensures ran { (run : Run) (place : Place) (rounds : ℕ) (slots : List Slot)
         (held : Option (List ℕ)) → IsAt run place control.old rounds slots
         → RanStep run place (steps.change edit.now) result control.new rounds slots held held }
+    ensures published { OnOk result (KeepsPublished control.old control.new) }
     ensures err { IfErr result (λ fault. fault ≡ RunFault.OutOfMemory) }
     ensures serves { (config : Settings) → Serves config control.old → Serves config control.new }
     ensures edits { control.new.edits ≤ control.old.edits + 1 }

@@ -1,7 +1,7 @@
 //! The stream of an established session, read whole: its octets come in, and what its messages say
 //! and how much of a message is left go out, or the first message that cannot be read
 //! (RFC 4271, sections 4 and 6).
-ghost use Rattle.std.specs.Prelude.{◌≡◌, ◌≤◌, ℕ, Option, Err, IfOk, length};
+ghost use Rattle.std.specs.Prelude.{◌≡◌, ◌≤◌, ◌<◌, ℕ, Option, Err, IfOk, length};
 ghost use Rattle.bgp_wire.specs.declared.kinds.MsgKind.{MsgKind};
 ghost use Rattle.urpf_base.specs.RouteUpdates.{RouteUpdate};
 ghost use Rattle.urpf_cli.specs.Session.{FailsBy, IsBadUpdateAt, IsFaultAt, IsUnsupported, IsUnsupportedAt, Leaves};
@@ -43,6 +43,8 @@ pub fn read_session<'a>(alloc: Global, stream: &'a [u8]) -> Result<Session<'a>, 
         → IsBadUpdateAt stream.now sub place }
     ensures unsupported { (place : ℕ) → result ≡ Err (SessionFault.Unsupported place)
         → IsUnsupportedAt stream.now place }
+    // Memory is taken only for a message.
+    ensures memory { result ≡ Err SessionFault.OutOfMemory → 0 < length stream.now }
 {
     let mut items = Vec::new(alloc);
     let mut framer = Framer::new();

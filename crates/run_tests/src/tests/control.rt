@@ -10,6 +10,7 @@ use control_core::{
     Control, ITEM_LIMIT, Limits, OCTET_LIMIT, RunFault, assigned_limits, cuts_do_not_count,
     items_of_a_front, one_list_of_items, one_more_update, one_rest, one_run,
 };
+use cover_table::Snapshot;
 use feed_io::BoxedFeed;
 use message_octets::{KEEPALIVE, OPEN, TWO_PREFIXES};
 use router_config::{Config, Edit, read_config};
@@ -136,6 +137,7 @@ fn comes<E: SetEngine>(rt: &(impl Abort + AllocGlobal), config: Config, engine: 
 {
     let iface = IfaceId::new(0).expect(rt, "an interface");
     assert!(rt; config.kind(iface).is_some());
+    let mut snapshot = Snapshot::new(rt.alloc(), config.kinds().expect(rt, "memory"));
     let mut control = opened(rt, config, engine, row.limits);
     let edit = Edit::Mode(iface, Mode::Feasible);
     control.edit(&edit).expect(rt, "memory");
@@ -148,8 +150,16 @@ fn comes<E: SetEngine>(rt: &(impl Abort + AllocGlobal), config: Config, engine: 
     let mut line = Line::new();
     control.put_summary(&mut line);
     assert_eq!(rt; line.bytes(), row.summary.as_bytes());
-    assert_eq!(rt; control.publish(), row.published);
-    assert_eq!(rt; control.judge(iface, &Addr::V4(0xC633_6409)), row.verdict);
+    let published = match control.publish_batch() {
+        Ok(batch) => {
+            snapshot.absorb(&batch).expect(rt, "memory");
+            Ok((batch.number, batch.changes.items().len() as u64))
+        }
+        Err(OutOfMemory) => Err(OutOfMemory),
+    };
+    assert_eq!(rt; published, row.published);
+    let verdict = snapshot.check(iface.number(), Some(Addr::V4(0xC633_6409)));
+    assert_eq!(rt; verdict, row.verdict);
     let number = control.number();
     for mark in control.marks().items() {
         if mark.number() == number && number > 0 {
@@ -179,7 +189,7 @@ fn a_session_is_pulled_and_published(rt: HostRuntime) {
     come(&rt, PULLED);
 }
 
-/// An engine that has room for one row.
+/// An engine that has room for one prefix of an interface.
 #[derive(Drop)]
 struct SmallEngine {
     sets: PlainEngine,
@@ -195,7 +205,7 @@ impl SetEngine for SmallEngine {
         prefix: Prefix,
         origin: Origin,
     ) -> Result<(), OutOfMemory> {
-        if self.full {
+        if self.full && !self.sets.cell(&prefix).f.has(iface) {
             return Err(OutOfMemory);
         }
         self.full = true;

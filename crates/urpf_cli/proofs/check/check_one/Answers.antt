@@ -1,8 +1,8 @@
-use Rattle.std.proofs.Common.{map, inl, refl, arith}
+use Rattle.std.proofs.Common.{Err, ap, map, inl, refl, arith}
 use Rattle.std.specs.Prelude.{string_bytes}
 use Rattle.urpf_cli.specs.CheckOne.{judged, misused}
 use Rattle.urpf_cli.proofs.CheckEnds.{end_found, end_only, fault_known, fault_only, front_written, line_judged}
-use Rattle.urpf_cli.proofs.CheckEnds.{line_written, misuse_told}
+use Rattle.urpf_cli.proofs.CheckEnds.{line_written, memory_told, misuse_told, some_stream}
 use Rattle.urpf_cli.proofs.check.check_one.Goals as goal
 
 pub returns-in_default-clause-usage : goal.returns-in_default-clause-usage
@@ -31,6 +31,12 @@ returns-in-Err-clause-only g c = λ end told read written.
     c.in-Some.ensures.found
     (omega (arith, c.in-Ok.stream.ok.0, c.in-Ok.ensures.within))
     (rw c.deref.ensures.value at c.in-Err.ensures.err) told
+
+pub returns-in-Err-clause-memory : goal.returns-in-Err-clause-memory
+returns-in-Err-clause-memory g c = λ is.
+    some_stream (g.S.Source.left c.args.session.now) c.in-Ok.stream.items c.in-Ok.ensures.whole
+    (rw c.deref.ensures.value at (c.in-Err.ensures.memory
+    (ap (λ f. Err f) (memory_told c.in-Err.fault c.status_of.result c.status_of.ensures is))))
 
 pub returns-in-Ok-write_all-clause-found : goal.returns-in-Ok-write_all-clause-found
 returns-in-Ok-write_all-clause-found g c = λ end is never.

@@ -2,7 +2,7 @@ use Rattle.std.proofs.Common.{length, arith}
 use Rattle.adj_rib.specs.Routes.{prefixes_of}
 use Rattle.adj_rib.proofs.Routes.{is_distinct}
 use Rattle.urpf_cli.proofs.CheckLines.{has_left, line_of}
-use Rattle.urpf_cli.proofs.Streams.{say-length}
+use Rattle.urpf_cli.proofs.Streams.{read_some, say-length}
 use Rattle.urpf_cli.proofs.check.judge.Goals as goal
 
 pub returns-clause-ok : goal.returns-clause-ok
@@ -16,7 +16,7 @@ returns-clause-ok c =
       read = leaves.read;
       prefixes = prefixes_of routes;
       distinct = is_distinct routes;
-      left = has_left session.items.items routes (rw c.deref.ensures.value at c.in_default.ensures);
+      left = has_left session.items.items routes (rw c.deref.ensures.value at c.in_default.ensures.ok);
       passes = c.any_covers-passes.result;
       verdict = c.any_covers-passes.ensures;
       text = line_of c.args.source.now c.any_covers-passes.result c.len-messages.result (length leaves.read.messages)
@@ -29,3 +29,9 @@ returns-clause-ok c =
           )) c.len-prefixes.ensures.count
           leaves.left c.put_one.ensures;
     }
+
+pub returns-in-Err-take_all-clause-memory : goal.returns-in-Err-take_all-clause-memory
+returns-in-Err-take_all-clause-memory c = λ is.
+    let leaves = c.in-Ok.ensures.read in
+    read_some c.args.stream.now c.in-Ok.session.items.items leaves.octets leaves.read
+    (rw c.deref.ensures.value at c.in-Err-take_all.ensures.memory)

@@ -1,4 +1,4 @@
-use Rattle.std.proofs.Common.{◌≡◌, ◌∙◌, ℕ, List, Err, Result, ap, inl, inr, length, map, subst, sym}
+use Rattle.std.proofs.Common.{◌≡◌, ◌∙◌, ℕ, List, Err, Result, ap, inl, inr, length, map, refl, subst, sym}
 use Rattle.std.specs.Prelude.{IfErr, string_bytes}
 use Rattle.feed_io.specs.Events.{Event}
 use Rattle.control_core.specs.declared.limits.RunFault.{RunFault}
@@ -14,9 +14,11 @@ use Rattle.urpf_cli.specs.Statuses.{IsRunStatus, status_of_run}
 use Rattle.urpf_cli.specs.Slots.{slots_of}
 use Rattle.urpf_cli.specs.Steps.{lines_in, steps_of}
 use Rattle.urpf_cli.specs.declared.refusals.Refusal.{Refusal}
+use Rattle.urpf_cli.specs.declared.refusals.Refusal.TheVariants.{Book, Config, Misused, Pairs}
+use Rattle.urpf_cli.specs.declared.refusals.TextRefusal.TheVariants as text
 use Rattle.urpf_cli.proofs.FeedFaults.{each_by}
 use Rattle.urpf_cli.proofs.OfflineEnds.{as_many_told, begun, done_below, none_failed, one_run_end, run_known}
-use Rattle.urpf_cli.proofs.OpeningLaws.{one_opening}
+use Rattle.urpf_cli.proofs.OpeningLaws.{one_opening, opens_or_refused}
 use Rattle.urpf_cli.proofs.RefusalStatuses.{before_pairs, failure_told, one_status, one_told}
 use Rattle.urpf_cli.proofs.offline_command.offline.Goals as goal
 
@@ -36,6 +38,36 @@ returns-in-Err-clause-unread g c = λ r other is before.
     (λ e. c.in-Err.ensures.untouched (ap (λ (q : Refusal). Err q) e))
     (λ r e. c.in-Err.ensures.unasked r (ap (λ (q : Refusal). Err q) e))
     (λ r e. c.in-Err.ensures.unread r (ap (λ (q : Refusal). Err q) e))
+
+pub returns-in-Err-clause-misused : goal.returns-in-Err-clause-misused
+returns-in-Err-clause-misused g c = λ is.
+    let same : c.in-Err.refusal ≡ Misused =
+    one_told c.in-Err.refusal Misused (λ e. cc) (sym c.status_of_refusal.ensures ∙ is) in
+    let kept = c.in-Err.ensures.untouched (ap (λ (q : Refusal). Err q) same) in (kept.0, kept.1, kept.2, refl, refl)
+
+pub returns-in-Err-clause-book_after : goal.returns-in-Err-clause-book_after
+returns-in-Err-clause-book_after g c = λ r other is.
+    let same : c.in-Err.refusal ≡ Config r =
+    one_told c.in-Err.refusal (Config r) other (sym c.status_of_refusal.ensures ∙ is) in
+    (c.in-Err.ensures.unasked r (ap (λ (q : Refusal). Err q) same)).0
+
+pub returns-in-Err-clause-pairs_after : goal.returns-in-Err-clause-pairs_after
+returns-in-Err-clause-pairs_after g c = λ r other is.
+    let same : c.in-Err.refusal ≡ Book r =
+    one_told c.in-Err.refusal (Book r) other (sym c.status_of_refusal.ensures ∙ is) in
+    c.in-Err.ensures.unread r (ap (λ (q : Refusal). Err q) same)
+
+pub returns-in-Err-clause-config_before : goal.returns-in-Err-clause-config_before
+returns-in-Err-clause-config_before g c = λ is.
+    let same : c.in-Err.refusal ≡ Book text.ReadFault =
+    one_told c.in-Err.refusal (Book text.ReadFault) (λ e. cc) (sym c.status_of_refusal.ensures ∙ is) in
+    c.in-Err.ensures.config_before text.ReadFault (ap (λ (q : Refusal). Err q) same)
+
+pub returns-in-Err-clause-texts_before : goal.returns-in-Err-clause-texts_before
+returns-in-Err-clause-texts_before g c = λ texts is are.
+    let same : c.in-Err.refusal ≡ Pairs text.ReadFault =
+    one_told c.in-Err.refusal (Pairs text.ReadFault) (λ e. cc) (sym c.status_of_refusal.ensures ∙ is) in
+    c.in-Err.ensures.texts_before text.ReadFault texts (ap (λ (q : Refusal). Err q) same) are
 
 pub returns-in-Err-clause-done_only : goal.returns-in-Err-clause-done_only
 returns-in-Err-clause-done_only g c = λ texts events are told below read_config read_book read_pairs feeds out.
@@ -58,6 +90,13 @@ returns-in-Err-clause-done_only g c = λ texts events are told below read_config
         ]
       ]
     ]
+
+pub returns-clause-unasked : goal.returns-clause-unasked
+returns-clause-unasked g c = λ r texts are refused.
+    let words = map string_bytes c.args.words.now in
+    let o = c.in-Ok.opening in
+    absurd (opens_or_refused words texts c.len.result o.config o.book o.pairs r (c.in-Ok.ensures.found.1 texts are)
+    (subst (λ (n : ℕ). IsRefused words texts n r) (sym (c.len.ensures ∙ c.args.feeds.now.ok.0)) refused))
 
 pub returns-clause-known : goal.returns-clause-known
 returns-clause-known g c =

@@ -6,7 +6,7 @@ use Rattle.urpf_cli.specs.Words.{PairsFrom}
 use Rattle.urpf_cli.specs.declared.refusals.Refusal.TheVariants.{Book, Config, Pairs, SessionCount}
 use Rattle.urpf_cli.proofs.OpeningLaws.{book_told, config_told, count_told, fails_if_opens, one_opening}
 use Rattle.urpf_cli.proofs.OpeningLaws.{opens_or_refused, opens_told, pairs_told, same_error_or_fails, same_opening}
-use Rattle.urpf_cli.proofs.OpeningLaws.{same_or_fails}
+use Rattle.urpf_cli.proofs.OpeningLaws.{same_or_fails, some_configured, texts_good}
 use Rattle.urpf_cli.proofs.opening.open_run.Goals as goal
 
 pub returns-in-Err-clause-only : goal.returns-in-Err-clause-only
@@ -44,6 +44,16 @@ returns-in-Err-open_book-clause-refused_only g c = λ r texts are refused.
     (g.S.Source.left c.args.pairs.now) texts are c.in-Some.ensures.found.0 c.in-Ok.config c.in-Ok.ensures.found
     c.in-Err-open_book.refusal
     c.in-Err-open_book.ensures.refused))
+
+pub returns-in-Err-open_book-clause-config_before : goal.returns-in-Err-open_book-clause-config_before
+returns-in-Err-open_book-clause-config_before g c = λ r is.
+    some_configured (g.S.Source.left c.args.config.now) c.in-Ok.config c.in-Ok.ensures.found
+
+pub returns-in-Err-open_pairs-clause-texts_before : goal.returns-in-Err-open_pairs-clause-texts_before
+returns-in-Err-open_pairs-clause-texts_before g c = λ r texts is are.
+    texts_good (map string_bytes c.args.words.now) (g.S.Source.left c.args.config.now)
+    (g.S.Source.left c.args.book.now) (g.S.Source.left c.args.pairs.now) texts are c.in-Some.ensures.found.0
+    c.in-Ok.config c.in-Ok.ensures.found c.in-Ok-open_book.book c.in-Ok-open_book.ensures.found
 
 pub returns-in-Err-open_pairs-clause-only : goal.returns-in-Err-open_pairs-clause-only
 returns-in-Err-open_pairs-clause-only g c = λ texts settings rows table are opens.

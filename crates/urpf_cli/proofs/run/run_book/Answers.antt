@@ -1,11 +1,16 @@
-use Rattle.std.proofs.Common.{◌∙◌, ℕ, subst, sym, Option}
+use Rattle.std.proofs.Common.{◌∙◌, ℕ, ap, subst, sym, Option}
 use Rattle.std.specs.Prelude.{IfErr}
 use Rattle.roa_irr.specs.Tables.{Table}
 use Rattle.router_config.specs.Settings.{Settings}
+use Rattle.cover_table.specs.Snapshots as snapshots
+use Rattle.cover_table.specs.Snapshots.{Publication}
 use Rattle.control_core.specs.Controls.{IsOpened}
+use Rattle.control_core.proofs.Shown.{shown_opened}
+use Rattle.urpf_cli.specs.Inputs.{opening_of}
 use Rattle.urpf_cli.specs.PairTables.{pairs_in}
+use Rattle.urpf_cli.specs.Places.{opening}
 use Rattle.urpf_cli.specs.RunText.{AreTotals, steps_for}
-use Rattle.urpf_cli.specs.Runs.{NamesSession, run_limits}
+use Rattle.urpf_cli.specs.Runs.{NamesSession, Shows, run_limits}
 use Rattle.urpf_cli.specs.Steps.{lines_in}
 use Rattle.urpf_cli.proofs.Emptied.{empties_none}
 use Rattle.urpf_cli.proofs.Heads.{run_none}
@@ -33,11 +38,15 @@ returns-clause-names g c =
 
 pub returns-clause-ran : goal.returns-clause-ran
 returns-clause-ran g c = λ run same tabled is told.
-    c.run_control.ensures.ran run
-    (subst (λ (t : Option Table). IsOpened (record { settings = run.config; pairs = pairs_in t }) run_limits
+    let opened : IsOpened (opening_of run) run_limits c.in-Ok.opened.0 =
+    subst (λ (t : Option Table). IsOpened (record { settings = run.config; pairs = pairs_in t }) run_limits
     c.in-Ok.opened.0) (sym tabled)
     (subst (λ (s : Settings). IsOpened (record { settings = s; pairs = pairs_in c.args.pairs.now }) run_limits
-    c.in-Ok.opened.0) (sym same) c.in-Ok.ensures.opened))
-    (subst (λ (t : Option Table). AreTotals run.config t c.in-Ok.opened.1) (sym tabled)
-    (subst (λ (s : Settings). AreTotals s c.args.pairs.now c.in-Ok.opened.1) (sym same) c.in-Ok.ensures.totals))
+    c.in-Ok.opened.0) (sym same) c.in-Ok.ensures.opened) in
+    c.run_control.ensures.ran run opened
+    (subst (λ (p : Publication). Shows run (opening run.config.sessions) c.in-Ok.opened.0 p)
+    (ap (λ (s : Settings). snapshots.opening s.interfaces) same ∙ sym c.in-Ok.ensures.shown)
+    (shown_opened (opening_of run) run_limits c.in-Ok.opened.0 opened))
+    (subst (λ (t : Option Table). AreTotals run.config t c.in-Ok.opened.2) (sym tabled)
+    (subst (λ (s : Settings). AreTotals s c.args.pairs.now c.in-Ok.opened.2) (sym same) c.in-Ok.ensures.totals))
     is told

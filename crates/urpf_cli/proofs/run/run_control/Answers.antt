@@ -13,7 +13,7 @@ use Rattle.urpf_cli.proofs.RunOpened.{as_many, opened_at, serves_opened}
 use Rattle.urpf_cli.proofs.run.run_control.Goals as goal
 
 pub returns-in-Err-clause-ran : goal.returns-in-Err-clause-ran
-returns-in-Err-clause-ran g c = λ run opened are is told. (
+returns-in-Err-clause-ran g c = λ run opened shows are is told. (
   head_front run (lines_in c.args.book.now) (head_text c.args.totals.now run.config.sessions)
       (g.K.Sink.held c.args.out.now) (g.K.Sink.held c.open_run.new.out) (head_of run c.args.totals.now are)
       (c.in-Err.ensures.front run.config.sessions (c.marks.ensures ∙ opened.marks)),
@@ -31,9 +31,9 @@ take_lines-requires-clause-serves g c = (
 )
 
 pub returns-in-Err-take_lines-clause-ran : goal.returns-in-Err-take_lines-clause-ran
-returns-in-Err-take_lines-clause-ran g c = λ run opened are is told.
+returns-in-Err-take_lines-clause-ran g c = λ run opened shows are is told.
     let ran = c.in-Err-take_lines.ensures.ran run
-    (opened_at run c.args.control.now (slots_of (λ b. (goal.Feed-dyn g (b.vtable, b.value)).left b.value) c.args.feeds.now.items) is opened told) in
+    (opened_at run c.args.control.now (slots_of (λ b. (goal.Feed-dyn g (b.vtable, b.value)).left b.value) c.args.feeds.now.items) is opened told) shows in
     book_stopped run (lines_in c.args.book.now) c.in-Err-take_lines.fault c.take_lines.new.control ran.0
     (slots_of (λ b. (goal.Feed-dyn g (b.vtable, b.value)).left b.value) c.take_lines.new.feeds.items) (head_text c.args.totals.now run.config.sessions)
     (g.K.Sink.held c.args.out.now) (g.K.Sink.held c.open_run.new.out) (g.K.Sink.held c.take_lines.new.out)
@@ -45,9 +45,9 @@ returns-in-Err-take_lines-clause-ran g c = λ run opened are is told.
     (as_many run.config.sessions c.args.control.now.peers opened.stands.stand) ran.1)
 
 pub returns-clause-ran : goal.returns-clause-ran
-returns-clause-ran g c = λ run opened are is told.
+returns-clause-ran g c = λ run opened shows are is told.
     let ran = c.in_default-take_lines.ensures.ran run
-    (opened_at run c.args.control.now (slots_of (λ b. (goal.Feed-dyn g (b.vtable, b.value)).left b.value) c.args.feeds.now.items) is opened told) in
+    (opened_at run c.args.control.now (slots_of (λ b. (goal.Feed-dyn g (b.vtable, b.value)).left b.value) c.args.feeds.now.items) is opened told) shows in
     book_ran run (lines_in c.args.book.now) c.number.result c.put_done.new.to c.offer.result c.take_lines.new.control
     ran.0 (slots_of (λ b. (goal.Feed-dyn g (b.vtable, b.value)).left b.value) c.take_lines.new.feeds.items) (head_text c.args.totals.now run.config.sessions)
     (g.K.Sink.held c.args.out.now) (g.K.Sink.held c.open_run.new.out) (g.K.Sink.held c.take_lines.new.out)

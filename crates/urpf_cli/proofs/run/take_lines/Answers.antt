@@ -3,20 +3,22 @@ use Rattle.std.proofs.lemmas.List.{length-map}
 use Rattle.runbook.specs.Book.{IsConfiguredFor}
 use Rattle.runbook.specs.declared.lines.BookLine.{BookLine}
 use Rattle.urpf_cli.specs.Places.{opening, place_after}
-use Rattle.urpf_cli.specs.Runs.{RanSteps}
+use Rattle.urpf_cli.specs.Runs.{RanSteps, Shows}
 use Rattle.urpf_cli.specs.Slots.{slots_of}
 use Rattle.urpf_cli.specs.Steps.{lines_in, steps_in, steps_of}
 use Rattle.urpf_cli.proofs.Composing.{no_steps}
 use Rattle.urpf_cli.proofs.FeedFaults.{each_by, each_none, each_then, well_read}
 use Rattle.urpf_cli.proofs.LinesTaken.{all_at, lines_all, lines_next, lines_stop}
+use Rattle.urpf_cli.proofs.Showing.{shows_next}
 use Rattle.urpf_cli.proofs.run.take_lines.Goals as goal
 
 pub loop-k-init : goal.loop-k-init
 loop-k-init g c = record {
   within = omega arith;
-  ran = λ run s.
+  ran = λ run s shows.
       no_steps run (opening run.config.sessions) c.args.control.now 0 (slots_of (λ b. (goal.Feed-dyn g (b.vtable, b.value)).left b.value) c.args.feeds.now.items)
       (g.K.Sink.held c.args.out.now) s;
+  shown = λ run s shows. shows;
   serves = λ config serves. serves;
   peers = refl;
   edits = omega (arith, c.requires.edits);
@@ -35,9 +37,9 @@ take_line-requires-clause-serves g c = (
 )
 
 pub returns-in-Err-clause-ran : goal.returns-in-Err-clause-ran
-returns-in-Err-clause-ran g c = λ run s.
+returns-in-Err-clause-ran g c = λ run s shows.
     let sessions : ℕ = length c.args.control.now.peers in
-    let ran = c.loop-k.invariant.ran run s in
+    let ran = c.loop-k.invariant.ran run s shows in
     let place = place_after run.inputs (steps_of sessions (take c.loop-k.k (lines_in c.args.book.now)))
     (opening run.config.sessions) in (
       c.take_line.new.rounds,
@@ -49,7 +51,7 @@ returns-in-Err-clause-ran g c = λ run s.
           (subst (λ (n : ℕ). RanSteps run place (steps_in n c.line-line.result.1) (Err c.in-Err.fault)
           c.take_line.new.control c.take_line.new.rounds (slots_of (λ b. (goal.Feed-dyn g (b.vtable, b.value)).left b.value) c.take_line.new.feeds.items)
           (g.K.Sink.held c.loop-k.out) (g.K.Sink.held c.take_line.new.out)) c.loop-k.invariant.peers
-          (c.in-Err.ensures.ran run place ran.1)),
+          (c.in-Err.ensures.ran run place ran.1 (c.loop-k.invariant.shown run s shows))),
     )
 
 pub returns-in-Err-clause-feeds : goal.returns-in-Err-clause-feeds
@@ -63,9 +65,9 @@ loop-k-preserved g c =
     (c.loop-k.invariant.serves c.requires.serves.0 c.requires.serves.1) in
     record {
       within = omega (arith, c.loop-k-test.true, c.len.ensures);
-      ran = λ run s.
+      ran = λ run s shows.
           let sessions : ℕ = length c.args.control.now.peers in
-          let ran = c.loop-k.invariant.ran run s in
+          let ran = c.loop-k.invariant.ran run s shows in
           let place = place_after run.inputs (steps_of sessions (take c.loop-k.k (lines_in c.args.book.now)))
           (opening run.config.sessions) in
           lines_next run (opening run.config.sessions) sessions c.args.book.now c.loop-k.k c.line-line.result
@@ -76,7 +78,17 @@ loop-k-preserved g c =
           (subst (λ (n : ℕ). RanSteps run place (steps_in n c.line-line.result.1) (Ok tt)
           c.take_line.new.control c.take_line.new.rounds (slots_of (λ b. (goal.Feed-dyn g (b.vtable, b.value)).left b.value) c.take_line.new.feeds.items)
           (g.K.Sink.held c.loop-k.out) (g.K.Sink.held c.take_line.new.out)) c.loop-k.invariant.peers
-          (c.in_default.ensures.ran run place ran.1));
+          (c.in_default.ensures.ran run place ran.1 (c.loop-k.invariant.shown run s shows)));
+      shown = λ run s shows.
+          let sessions : ℕ = length c.args.control.now.peers in
+          let place = place_after run.inputs (steps_of sessions (take c.loop-k.k (lines_in c.args.book.now)))
+          (opening run.config.sessions) in
+          shows_next run (opening run.config.sessions) sessions c.args.book.now c.loop-k.k c.line-line.result
+          c.take_line.new.control c.take_line.new.snapshot c.line-line.ensures
+          (subst (λ (n : ℕ). Shows run (place_after run.inputs (steps_in n c.line-line.result.1) place)
+          c.take_line.new.control c.take_line.new.snapshot) c.loop-k.invariant.peers
+          (c.in_default.ensures.shown run place (c.loop-k.invariant.ran run s shows).1
+          (c.loop-k.invariant.shown run s shows)));
       serves = λ config is. c.in_default.ensures.serves config (c.loop-k.invariant.serves config is);
       peers = serves.sessions ∙ sym c.requires.serves.1.sessions;
       edits = omega (arith, c.in_default.ensures.counts.edits, c.loop-k.invariant.edits);
@@ -89,13 +101,13 @@ loop-k-preserved g c =
     }
 
 pub returns-clause-ran : goal.returns-clause-ran
-returns-clause-ran g c = λ run s. (
+returns-clause-ran g c = λ run s shows. (
   c.loop-k.rounds,
   lines_all run (opening run.config.sessions) (length c.args.control.now.peers) c.args.book.now c.loop-k.k
       c.loop-k.control c.loop-k.rounds (slots_of (λ b. (goal.Feed-dyn g (b.vtable, b.value)).left b.value) c.loop-k.feeds.items) (g.K.Sink.held c.args.out.now)
       (g.K.Sink.held c.loop-k.out)
       (omega (arith, c.loop-k-test.false, c.len.ensures, length-map c.args.book.now (λ (r : ℕ × BookLine). r.1)))
-      (c.loop-k.invariant.ran run s),
+      (c.loop-k.invariant.ran run s shows),
 )
 
 pub returns-clause-feeds : goal.returns-clause-feeds

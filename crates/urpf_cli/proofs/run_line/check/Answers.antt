@@ -1,4 +1,6 @@
-use Rattle.urpf_cli.specs.Inputs.{opening_of}
+use Rattle.std.proofs.Common.{◌∙◌, Some, ap}
+use Rattle.cover_table.specs.Judging.{judge}
+use Rattle.report_text.specs.Lines.{check_line}
 use Rattle.urpf_cli.specs.Steps.{check}
 use Rattle.urpf_cli.proofs.Emptied.{emptied_at}
 use Rattle.urpf_cli.proofs.StepResults.{check_gives}
@@ -6,10 +8,13 @@ use Rattle.urpf_cli.proofs.Written.{step_ran}
 use Rattle.urpf_cli.proofs.run_line.check.Goals as goal
 
 pub returns-clause-ran : goal.returns-clause-ran
-returns-clause-ran g c = λ run place rounds slots s.
-    step_ran run place (check c.args.iface c.args.addr.now) c.put_check.new.to c.offer.result c.args.control.now rounds
-    slots (g.K.Sink.held c.args.out.now) (g.K.Sink.held c.offer.new.out)
-    (check_gives run place c.args.control.now rounds slots c.args.iface c.args.addr.now c.judge-verdict.result
-    c.number.result c.put_check.new.to s (c.judge-verdict.ensures.sets (opening_of run) place.edits s.courses s.stands)
-    c.number.ensures c.put_check.ensures)
-    (emptied_at run place c.args.control.now rounds slots s) s c.offer.ensures.ok c.offer.ensures.cut_short c.offer.ensures.err
+returns-clause-ran g c = λ run place control rounds slots s shows.
+    step_ran run place (check c.args.iface c.args.addr.now) c.put_check.new.to c.offer.result control rounds slots
+    (g.K.Sink.held c.args.out.now) (g.K.Sink.held c.offer.new.out)
+    (check_gives run place control rounds slots c.args.iface c.args.addr.now c.args.snapshot.now c.put_check.new.to s
+    shows (c.put_check.ensures
+    ∙ ap (λ v. check_line c.args.iface c.args.addr.now v c.number-2.result)
+    (c.check-verdict.ensures ∙ ap (λ i. judge c.args.snapshot.now i (Some c.args.addr.now)) c.number.ensures.value)
+    ∙ ap (λ n. check_line c.args.iface c.args.addr.now (judge c.args.snapshot.now c.args.iface (Some c.args.addr.now)) n)
+    c.number-2.ensures))
+    (emptied_at run place control rounds slots s) s c.offer.ensures.ok c.offer.ensures.cut_short c.offer.ensures.err

@@ -5,6 +5,7 @@ use Rattle.urpf_cli.specs.Slots.{slots_of}
 use Rattle.urpf_cli.specs.Steps.{pulls_of}
 use Rattle.urpf_cli.proofs.Composing.{no_steps, pull_among, pulls_next}
 use Rattle.urpf_cli.proofs.FeedFaults.{each_by, each_none, each_then, well_read}
+use Rattle.urpf_cli.proofs.Showing.{keeps_self, keeps_then}
 use Rattle.urpf_cli.proofs.run_line.pull_each.Goals as goal
 
 pub loop-session-init : goal.loop-session-init
@@ -13,6 +14,7 @@ loop-session-init g c = record {
       no_steps run place c.args.control.now rounds (slots_of (λ b. (goal.Feed-dyn g (b.vtable, b.value)).left b.value) c.args.feeds.now.items)
       (g.K.Sink.held c.args.out.now) s;
   serves = λ config serves. serves;
+  published = keeps_self c.args.control.now;
   peers = refl;
   edits = refl;
   number = refl;
@@ -37,6 +39,11 @@ returns-in-Err-clause-feeds g c =
     each_then _ _ c.args.feeds.now.items c.loop-session.feeds.items c.pull.new.feeds.items
     c.loop-session.invariant.feeds c.in-Err.ensures.feeds
 
+pub returns-in-Err-clause-published : goal.returns-in-Err-clause-published
+returns-in-Err-clause-published g c =
+    keeps_then c.args.control.now c.loop-session.control c.pull.new.control c.loop-session.invariant.published
+    c.in-Err.ensures.published
+
 pub loop-session-preserved : goal.loop-session-preserved
 loop-session-preserved g c =
     let serves = c.in_default.ensures.serves c.requires.serves.0
@@ -50,6 +57,8 @@ loop-session-preserved g c =
           (c.in_default.ensures.ran run
           (place_after run.inputs (pulls_of c.loop-session.session c.args.count) place) rounds ran.1);
       serves = λ config is. c.in_default.ensures.serves config (c.loop-session.invariant.serves config is);
+      published = keeps_then c.args.control.now c.loop-session.control c.pull.new.control
+          c.loop-session.invariant.published c.in_default.ensures.published;
       peers = serves.sessions ∙ sym c.requires.serves.1.sessions;
       edits = c.in_default.ensures.edits ∙ c.loop-session.invariant.edits;
       number = c.in_default.ensures.number ∙ c.loop-session.invariant.number;

@@ -1,5 +1,6 @@
 use Rattle.std.proofs.Common.{◌≡◌, ℕ, Ok, length}
 use Rattle.router_config.specs.Settings.{Settings}
+use Rattle.control_core.specs.Controls.{KeepsPublished}
 use Rattle.control_core.specs.Worlds.{last_number}
 use Rattle.urpf_cli.specs.Inputs.{Run}
 use Rattle.urpf_cli.specs.Places.{Place}
@@ -16,6 +17,7 @@ invariant-loop-session g l = record {
       → RanSteps run place (pulls_of l.session l.count) (Ok tt) l.control rounds
       (slots_of (λ b. (goal.Feed-dyn g (b.vtable, b.value)).left b.value) l.feeds.items) (g.K.Sink.held l.initial.out) (g.K.Sink.held l.out);
   serves : (config : Settings) → Serves config l.initial.control → Serves config l.control;
+  published : KeepsPublished l.initial.control l.control;
   peers : length l.control.peers ≡ length l.initial.control.peers;
   edits : l.control.edits ≡ l.initial.control.edits;
   number : last_number l.control.marks ≡ last_number l.initial.control.marks;

@@ -67,6 +67,17 @@ returns-in-Err-clause-unsupported c = λ place is.
     c.split_at-in-Whole.result.1.now (λ kind body. IsUnsupported kind) c.loop-held.invariant.progress
     (omega (arith, told.0, c.len-in-Whole.ensures, c.loop-held.items.ok.0)) taken told.1
 
+pub returns-in-Err-clause-memory : goal.returns-in-Err-clause-memory
+returns-in-Err-clause-memory c = λ is.
+    let left = c.loop-held.left.now in
+    let count = c.push-count.result in
+    let now : c.push-count.new.self
+    ≡ take count left =
+    held_now c.loop-held.framer (take count left) c.push-count.new.self c.loop-held.invariant.empty
+    c.push-count.ensures.held in
+    let state = c.in-Whole.ensures.state in
+    omega (arith, c.loop-held.invariant.room, state.0.header, ap length now, length-take count left)
+
 pub loop-held-preserved : goal.loop-held-preserved
 loop-held-preserved c =
     let left = c.loop-held.left.now in

@@ -5,7 +5,7 @@ ghost use Rattle.rpf_plain.specs.World.{roles_of};
 use router_config::{Edit, Kinds};
 use rpf_plain::{PlainEngine, Row, SetEngine};
 use std::alloc::Global;
-use urpf_base::{IfaceId, OutOfMemory, Role};
+use urpf_base::{Changes, IfaceId, OutOfMemory, Role};
 
 /// An engine, and how many rows were added to it.
 #[derive(Drop)]
@@ -58,7 +58,14 @@ impl Filled {
     pub fn drain(&mut self) -> Result<u64, OutOfMemory>
         ensures { OnErr result (self.new.engine ≡ self.old.engine) }
     {
-        Ok(self.engine.drain_changes()?.items().len() as u64)
+        Ok(self.changes()?.items().len() as u64)
+    }
+
+    /// The cells that changed since the drain before.
+    pub fn changes(&mut self) -> Result<Changes, OutOfMemory>
+        ensures { OnErr result (self.new.engine ≡ self.old.engine) }
+    {
+        self.engine.drain_changes()
     }
 
     /// How many rows there are.

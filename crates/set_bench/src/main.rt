@@ -1,17 +1,21 @@
 //! The program: `rows COUNT INTERFACES ORIGINS ascending|none` fills an engine of the source sets and
-//! drains it; `routes` with the same words fills Adj-RIBs-In, one an interface. A line is written
-//! after each step, so that who reads the lines can tell how long a step took and what memory it
-//! left.
+//! drains it; `routes` with the same words fills Adj-RIBs-In, one an interface; `cells COUNT CHECKS`
+//! has a snapshot take over the cells of so many prefixes, and check so many sources three times. A
+//! line is written after each step, so that who reads the lines can tell how long a step took and
+//! what memory it left.
 #![tactic(auto)]
 
+mod checked;
 mod filled;
 mod rows;
 mod sizes;
 
+use crate::checked::{Checks, Places, drawn, passed};
 use crate::filled::Filled;
 use crate::rows::{prefix, row};
 use crate::sizes::Sizes;
 use adj_rib::AdjRib;
+use cover_table::{Batch, Snapshot};
 use ip_text::put_number;
 use router_config::{Kinds, read_config};
 use std::alloc::Global;
@@ -42,6 +46,12 @@ fn main(rt: HostRuntime) -> ExitCode {
 /// Measures what the words say. Nothing where they say nothing.
 fn run<R: AllocGlobal + Env + Print>(rt: &R) -> Result<(), OutOfMemory> {
     let words = words(rt)?;
+    if words.len() == 3 && words[0].as_str() == "cells" {
+        return match Checks::read(&words[1..]) {
+            Some(checks) => measure_checks(rt, &checks),
+            None => Ok(()),
+        };
+    }
     if words.len() != 5 {
         return Ok(());
     }
@@ -114,6 +124,64 @@ fn set_first_role(filled: &mut Filled, role: Role) -> Result<(), OutOfMemory> {
         Some(iface) => filled.set_role(iface, role),
         None => Ok(()),
     }
+}
+
+/// Has a snapshot take over the cells of the prefixes, checks sources, and takes over one cell more.
+fn measure_checks<R: AllocGlobal + Print>(rt: &R, checks: &Checks) -> Result<(), OutOfMemory> {
+    let mut filled = Filled::new(rt.alloc(), four(rt.alloc())?)?;
+    let mut snapshot = Snapshot::new(rt.alloc(), four(rt.alloc())?);
+    for place in 0..checks.count {
+        add_cell(&mut filled, place)?;
+    }
+    take_over(rt, &mut filled, &mut snapshot)?;
+    let both = Places::new(0, checks.count.saturating_mul(2));
+    let there = Places::new(0, checks.count);
+    let behind = Places::new(checks.count, checks.count);
+    check(rt, &snapshot, b"mixed", both, checks.asked)?;
+    check(rt, &snapshot, b"hits", there, checks.asked)?;
+    check(rt, &snapshot, b"misses", behind, checks.asked)?;
+    add_cell(&mut filled, checks.count)?;
+    take_over(rt, &mut filled, &mut snapshot)
+}
+
+/// Adds a row of interface 0, which makes one cell.
+fn add_cell(filled: &mut Filled, place: u32) -> Result<(), OutOfMemory> {
+    match checked::row(place) {
+        Some(row) => filled.add(&row),
+        None => Ok(()),
+    }
+}
+
+/// Has the snapshot take over the cells that changed.
+fn take_over<R: AllocGlobal + Print>(
+    rt: &R,
+    filled: &mut Filled,
+    snapshot: &mut Snapshot,
+) -> Result<(), OutOfMemory> {
+    let batch = Batch {
+        number: snapshot.number().saturating_add(1),
+        kinds: four(rt.alloc())?,
+        changes: filled.changes()?,
+    };
+    let count = batch.changes.items().len() as u64;
+    tell(rt, b"listed", count);
+    snapshot.absorb(&batch)?;
+    tell(rt, b"absorbed", count);
+    Ok(())
+}
+
+/// Checks so many drawn sources in prefixes at these places.
+fn check<R: AllocGlobal + Print>(
+    rt: &R,
+    snapshot: &Snapshot,
+    name: &[u8],
+    places: Places,
+    count: u32,
+) -> Result<(), OutOfMemory> {
+    let sources = drawn(rt.alloc(), places, count)?;
+    tell(rt, b"drawn", u64::from(count));
+    tell(rt, name, passed(snapshot, &sources) as u64);
+    Ok(())
 }
 
 /// Fills an Adj-RIB-In with the prefixes of the rows of one interface.

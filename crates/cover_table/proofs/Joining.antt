@@ -1,27 +1,21 @@
 -- What a tree is after an entry is put above or beside it, and after one is put below it.
-use Rattle.std.proofs.Common.{◌≡◌, ℕ, ◌+◌, ◌<◌, ◌≤◌, Bool, true, false, List, [], ◌∷◌, ◌++◌, length}
-use Rattle.std.proofs.Common.{inl, inr, refl, sym, ap, subst, ◌∙◌, arith, get_or, set, length-set}
-use Rattle.std.proofs.lemmas.Bool.{cases_lt}
+use Rattle.std.proofs.Common.{◌≡◌, ℕ, ◌+◌, ◌<◌, ◌≤◌, true, [], ◌++◌}
+use Rattle.std.proofs.Common.{inl, inr, refl, sym, ap, subst, ◌∙◌, arith, get_or, set}
 use Rattle.std.proofs.lemmas.List.{append-nil}
-use Rattle.std.specs.Bool.{IsTrue}
-use Rattle.urpf_base.specs.Address.{cleared}
 use Rattle.cover_table.specs.declared.nodes.Entry.{Entry}
 use Rattle.cover_table.specs.declared.nodes.Node.{Node}
 use Rattle.cover_table.specs.declared.tree.CellTree.{CellTree}
 use Rattle.cover_table.specs.Rows.{rows_written}
 use Rattle.cover_table.specs.Tables.{is_empty_cell}
-use Rattle.cover_table.specs.Trees.{Tree, Empty, Branch, AreApart, Holds, IsAt, IsOrdered, IsReady, IsWithin, Results}
-use Rattle.cover_table.specs.Trees.{Turns, addr_of, change_for, entry_cell, leaf_of, no_place, own_rows}
+use Rattle.cover_table.specs.Trees.{Tree, Branch, AreApart, Holds, IsAt, IsOrdered, IsReady, IsWithin, Results}
+use Rattle.cover_table.specs.Trees.{addr_of, change_for, entry_cell, no_place, own_rows}
 use Rattle.cover_table.specs.Trees.{rows_of, size}
 use Rattle.cover_table.proofs.Between.{before_beside, behind_above, behind_beside, own_none, written_first, written_here}
 use Rattle.cover_table.proofs.Between.{written_last, written_left, written_right}
-use Rattle.cover_table.proofs.Blocks.{covered_within, ends_before, into_lower, into_upper, same_bits, size_some, two_halves}
-use Rattle.cover_table.proofs.Turning.{after, left_holds, reentered, relinked_left, relinked_right, right_holds}
-use Rattle.cover_table.proofs.Turning.{took_left, took_right, turned_holds}
-use Rattle.cover_table.proofs.Writing.{by_node, chain_within, reworded, top_left, top_right, unchanged}
-
-pub same_length : (a b : List Node) (i : ℕ) (node : Node) → a ≡ set b i node → length a ≡ length b
-same_length a b i node is = ap length is ∙ length-set b i node
+use Rattle.cover_table.proofs.Blocks.{covered_within, into_lower, into_upper, same_bits, size_some, two_halves}
+use Rattle.cover_table.proofs.Turning.{left_holds, right_holds}
+use Rattle.cover_table.proofs.Relinking.{reentered, relinked_left, relinked_right}
+use Rattle.cover_table.proofs.Writing.{by_node, reworded, top_left, top_right, unchanged}
 
 -- a prefix is within its own block
 self_within : (w low d : ℕ) (entry : Entry) → IsWithin w low d entry → IsWithin w entry.bits entry.len entry
@@ -32,118 +26,6 @@ self_within w low d entry inner = record {
   to = omega arith;
   zeros = inner.zeros;
 }
-
--- the entry on one side of a fork
-module _ (a b c e : CellTree) (w low d at : ℕ) (fork entry : Entry) (to leaf : ℕ) (to_is : to ≡ a.free)
-    (leaf_is : leaf ≡ b.free) (inner : IsWithin w low d fork)
-    (chain_b : (other : Node) → b.free ≡ (get_or a.nodes.items a.free other).left) (freed_b : b.freed + 1 ≡ a.freed)
-    (nodes_c : c.nodes.items ≡ set b.nodes.items b.free (leaf_of entry))
-    (chain_c : (other : Node) → c.free ≡ (get_or b.nodes.items b.free other).left) (freed_c : c.freed + 1 ≡ b.freed)
-    (chain_e : e.free ≡ c.free) (freed_e : e.freed ≡ c.freed) (tree : Tree) where
-  module _ (nodes_b : b.nodes.items ≡ set a.nodes.items a.free (record { entry = fork; left = no_place; right = at }))
-      (nodes_e : (other : Node) → e.nodes.items
-      ≡ set c.nodes.items to (record (get_or c.nodes.items to other) { left = leaf }))
-      (lower : IsWithin w fork.bits (fork.len + 1) entry)
-      (ordered : IsOrdered w (fork.bits + size w (fork.len + 1)) (fork.len + 1) tree) where
-    abbrev top : Node
-    top = record { entry = fork; left = no_place; right = at }
-
-    pub joined_left : (free : List ℕ) → Holds a at tree free
-        → Results a e w low d tree free to (own_rows w fork ++ ((own_rows w entry ++ []) ++ rows_of w tree)) 2
-    joined_left [] h = absurd (omega (arith, h.freed))
-    joined_left (p ∷ []) h = absurd (omega (arith, h.freed))
-    joined_left (p ∷ (q ∷ free)) h =
-        let first : Turns a b a.free tree (p ∷ (q ∷ free)) (Branch p top Empty tree) (q ∷ free) =
-        took_right a b at top tree p (q ∷ free) h nodes_b chain_b freed_b refl refl in
-        let held : Holds b a.free (Branch p top Empty tree) (q ∷ free) =
-        turned_holds a b at a.free tree (p ∷ (q ∷ free)) (Branch p top Empty tree) (q ∷ free) h first in
-        let second : Turns b c b.free Empty (q ∷ free) (Branch q (leaf_of entry) Empty Empty) free =
-        took_left b c no_place (leaf_of entry) Empty q free
-        (left_holds b a.free p top Empty tree (q ∷ free) held) nodes_c chain_c freed_c refl refl in
-        let third : Turns b e a.free (Branch p top Empty tree) (q ∷ free)
-        (Branch p (record top { left = b.free }) (Branch q (leaf_of entry) Empty Empty) tree) free =
-        relinked_left b c e a.free p b.free top Empty tree (q ∷ free) (Branch q (leaf_of entry) Empty Empty) free held
-        second
-        (λ other. nodes_e other
-        ∙ (λ i. set c.nodes.items (to_is i) (record (get_or c.nodes.items (to_is i) other) { left = leaf_is i })))
-        chain_e freed_e in
-        record {
-          tree' = Branch p (record top { left = b.free }) (Branch q (leaf_of entry) Empty Empty) tree;
-          free' = free;
-          turns =
-              subst (λ i. Turns a e i tree (p ∷ (q ∷ free))
-              (Branch p (record top { left = b.free }) (Branch q (leaf_of entry) Empty Empty) tree) free) (sym to_is)
-              (after a b e a.free a.free tree (p ∷ (q ∷ free)) (Branch p top Empty tree) (q ∷ free)
-              (Branch p (record top { left = b.free }) (Branch q (leaf_of entry) Empty Empty) tree) free first third);
-          written = refl;
-          ordered = (inner, (lower, tt, tt), ordered);
-          taken = omega arith;
-        }
-
-  module _ (nodes_b : b.nodes.items ≡ set a.nodes.items a.free (record { entry = fork; left = at; right = no_place }))
-      (nodes_e : (other : Node) → e.nodes.items
-      ≡ set c.nodes.items to (record (get_or c.nodes.items to other) { right = leaf }))
-      (upper : IsWithin w (fork.bits + size w (fork.len + 1)) (fork.len + 1) entry)
-      (ordered : IsOrdered w fork.bits (fork.len + 1) tree) where
-    abbrev peak : Node
-    peak = record { entry = fork; left = at; right = no_place }
-
-    pub joined_right : (free : List ℕ) → Holds a at tree free
-        → Results a e w low d tree free to (own_rows w fork ++ (rows_of w tree ++ (own_rows w entry ++ []))) 2
-    joined_right [] h = absurd (omega (arith, h.freed))
-    joined_right (p ∷ []) h = absurd (omega (arith, h.freed))
-    joined_right (p ∷ (q ∷ free)) h =
-        let first : Turns a b a.free tree (p ∷ (q ∷ free)) (Branch p peak tree Empty) (q ∷ free) =
-        took_left a b at peak tree p (q ∷ free) h nodes_b chain_b freed_b refl refl in
-        let held : Holds b a.free (Branch p peak tree Empty) (q ∷ free) =
-        turned_holds a b at a.free tree (p ∷ (q ∷ free)) (Branch p peak tree Empty) (q ∷ free) h first in
-        let second : Turns b c b.free Empty (q ∷ free) (Branch q (leaf_of entry) Empty Empty) free =
-        took_left b c no_place (leaf_of entry) Empty q free
-        (right_holds b a.free p peak tree Empty (q ∷ free) held) nodes_c chain_c freed_c refl refl in
-        let third : Turns b e a.free (Branch p peak tree Empty) (q ∷ free)
-        (Branch p (record peak { right = b.free }) tree (Branch q (leaf_of entry) Empty Empty)) free =
-        relinked_right b c e a.free p b.free peak tree Empty (q ∷ free) (Branch q (leaf_of entry) Empty Empty) free held
-        second
-        (λ other. nodes_e other
-        ∙ (λ i. set c.nodes.items (to_is i) (record (get_or c.nodes.items (to_is i) other) { right = leaf_is i })))
-        chain_e freed_e in
-        record {
-          tree' = Branch p (record peak { right = b.free }) tree (Branch q (leaf_of entry) Empty Empty);
-          free' = free;
-          turns =
-              subst (λ i. Turns a e i tree (p ∷ (q ∷ free))
-              (Branch p (record peak { right = b.free }) tree (Branch q (leaf_of entry) Empty Empty)) free) (sym to_is)
-              (after a b e a.free a.free tree (p ∷ (q ∷ free)) (Branch p peak tree Empty) (q ∷ free)
-              (Branch p (record peak { right = b.free }) tree (Branch q (leaf_of entry) Empty Empty)) free first third);
-          written = refl;
-          ordered = (inner, ordered, (upper, tt, tt));
-          taken = omega arith;
-        }
-
--- what is free behind the first that is taken
-pub chain_again : (a b : CellTree) (at : ℕ) (node : Node) (w low d : ℕ) (ready : IsReady a w at low d)
-    → b.nodes.items ≡ set a.nodes.items a.free node → node.left ≡ no_place → node.right ≡ at
-    → ((other : Node) → b.free ≡ (get_or a.nodes.items a.free other).left) → b.freed + 1 ≡ a.freed → 2 ≤ a.freed
-    → b.free < length b.nodes.items
-chain_again a b at node w low d ready nodes none named chain freed room = go ready.free ready.holds
-  where
-    go : (free : List ℕ) → Holds a at ready.tree free → b.free < length b.nodes.items
-    go [] h = absurd (omega (arith, h.freed))
-    go (p ∷ free) h =
-        let first = took_right a b at node ready.tree p free h nodes chain freed none named in
-        chain_within b free first.chain first.freed (omega arith)
-
-pub chain_again' : (a b : CellTree) (at : ℕ) (node : Node) (w low d : ℕ) (ready : IsReady a w at low d)
-    → b.nodes.items ≡ set a.nodes.items a.free node → node.left ≡ at → node.right ≡ no_place
-    → ((other : Node) → b.free ≡ (get_or a.nodes.items a.free other).left) → b.freed + 1 ≡ a.freed → 2 ≤ a.freed
-    → b.free < length b.nodes.items
-chain_again' a b at node w low d ready nodes named none chain freed room = go ready.free ready.holds
-  where
-    go : (free : List ℕ) → Holds a at ready.tree free → b.free < length b.nodes.items
-    go [] h = absurd (omega (arith, h.freed))
-    go (p ∷ free) h =
-        let first = took_left a b at node ready.tree p free h nodes chain freed named none in
-        chain_within b free first.chain first.freed (omega arith)
 
 -- an entry above or beside a node that stands there
 module _ (old : CellTree) (w low d at : ℕ) (entry : Entry) (node : Node) (here : IsAt old.nodes.items at node)
@@ -411,35 +293,3 @@ module _ (old : CellTree) (w low d at : ℕ) (node : Node) (here : IsAt old.node
           taken = r.taken;
         })
         ready.holds ready.ordered
-
--- a test that fails
-pub fails : (b : Bool) (P : Type 0) → (IsTrue b → P) × (P → IsTrue b) → b ≡ false → ¬ P
-fails b P told is p = let yes : IsTrue b = told.1 p in absurd cc
-
-pub holds : (b : Bool) (P : Type 0) → (IsTrue b → P) × (P → IsTrue b) → b ≡ true → P
-holds b P told is = told.0 (subst IsTrue (sym is) refl)
-
--- prefixes of which the longer one is not covered by the other
-pub apart_longer : (w : ℕ) (a b : Entry) → a.len ≤ w → cleared w a.len a.bits ≡ a.bits → cleared w b.len b.bits ≡ b.bits
-    → b.len ≤ a.len → ¬ ((b.bits ≤ a.bits) × (a.bits < b.bits + size w b.len)) → AreApart w a b
-apart_longer w a b within zeros zeros' longer none =
-    elim (cases_lt a.bits b.bits) [
-      | inl less ↦ inl (ends_before w a b within zeros longer zeros' less)
-      | inr more ↦
-          elim (cases_lt a.bits (b.bits + size w b.len)) [
-            | inl below ↦ absurd (none (more, below))
-            | inr past ↦ inr past
-          ]
-    ]
-
-pub apart_turned : (w : ℕ) (a b : Entry) → AreApart w a b → AreApart w b a
-apart_turned w a b (inl h) = inr h
-apart_turned w a b (inr h) = inl h
-
-pub apart_below : (w : ℕ) (a b : Entry) → AreApart w a b → b.bits < a.bits → b.bits + size w b.len ≤ a.bits
-apart_below w a b (inl h) less = let some = size_some w a.len in absurd (omega arith)
-apart_below w a b (inr h) less = h
-
-pub apart_above : (w : ℕ) (a b : Entry) → AreApart w a b → a.bits ≤ b.bits → a.bits + size w a.len ≤ b.bits
-apart_above w a b (inl h) most = h
-apart_above w a b (inr h) most = let some = size_some w b.len in absurd (omega arith)

@@ -1,13 +1,16 @@
+pub mod Apart
 pub mod Between
 pub mod Blocks
 pub mod Covering
 pub mod Descending
 pub mod Families
 pub mod Folding
+pub mod Forking
 pub mod Joining
 pub mod Looking
 pub mod Parts
 pub mod Passing
+pub mod Relinking
 pub mod Standing
 pub mod Turning
 pub mod Whole

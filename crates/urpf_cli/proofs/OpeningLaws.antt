@@ -1,14 +1,19 @@
 -- Words, texts and a number of sessions open one run, or decide one refusal, and never both.
-use Rattle.std.proofs.Common.{◌≡◌, ◌⊎◌, ℕ, List, length, refl, sym, ap, subst, ◌∙◌, inl, inr}
+use Rattle.std.proofs.Common.{◌≡◌, ◌⊎◌, ℕ, ◌<◌, List, [], ◌∷◌, length, refl, sym, ap, subst, ◌∙◌, inl, inr, arith}
 use Rattle.std.proofs.Common.{Option, Some, None, IfSome, Result, Ok, Err, min}
 use Rattle.router_config.specs.declared.faults.ConfigFault.{ConfigFault}
 use Rattle.router_config.specs.Settings.{IsConfig, Settings}
 use Rattle.router_config.specs.Settings as settings
+use Rattle.router_config.proofs.Blank.{kept_not_blank}
+use Rattle.toml.specs.Errors.{IsBlank}
+use Rattle.toml.specs.Parse.{skip_bom}
+use Rattle.toml.proofs.Blanks.{skip_within}
 use Rattle.roa_irr.specs.Tables.{Table}
 use Rattle.runbook.specs.declared.book.BookFault.{BookFault}
 use Rattle.runbook.specs.declared.lines.BookLine.{BookLine}
 use Rattle.runbook.specs.Book.{IsBook}
 use Rattle.runbook.proofs.BookLaws.{never_both, one_book, one_fault}
+use Rattle.urpf_cli.proofs.CheckEnds.{some_stream}
 use Rattle.urpf_cli.proofs.RefusalStatuses.{same_book_fault}
 use Rattle.urpf_cli.proofs.TableLaws.{has_or_refused, one_from, one_has, one_pairs_refusal}
 use Rattle.urpf_cli.proofs.TextLaws.{not_refused, one_text_refusal}
@@ -74,6 +79,23 @@ one_book_refusal : (config : Settings) (text : List ℕ) (q r : TextRefusal Book
 one_book_refusal config text =
     one_text_refusal _ _ text (λ f g a b.
     let same = one_fault config text f.line g.line f.kind g.kind a b in same_book_fault f g same.0 same.1)
+
+no_mark : skip_bom [] ≡ []
+unfolding skip_bom
+no_mark = refl
+
+some_octets : (text : List ℕ) → ¬ (IsBlank text) → 0 < length text
+some_octets [] never =
+    absurd (never (omega (arith, skip_within (skip_bom []), ap (λ (t : List ℕ). length t) no_mark)))
+some_octets (c ∷ text) never = omega arith
+
+-- a text that wants more than blanks has octets, and so has one that configures something
+pub config_octets : (text : List ℕ) (config : Settings) → IsConfig text config → 0 < length text
+config_octets text config is = some_octets text (kept_not_blank text is.members is.parsed.1 is.kept)
+
+pub told_octets : (left : Option (List ℕ)) (text : List ℕ) → IfSome left (λ all. text ≡ all) → ¬ (IsBlank text)
+    → IfSome left (λ all. 0 < length all)
+told_octets left text whole never = some_stream left text whole (some_octets text never)
 
 -- one configuration is configured
 pub one_configured : (text : List ℕ) (a b : Settings) → Configures text a → Configures text b → a ≡ b

@@ -80,6 +80,13 @@ one_told a b other is =
     ap (λ (o : Option Refusal). unwrap_or o a)
     (sym (told_back a (λ memory. other (sym is ∙ memory))) ∙ ap refusal_of is ∙ told_back b other)
 
+-- want of memory is told of a configuration for nothing else
+pub config_memory : (r : TextRefusal ConfigFault) → status_of_refusal (Config r) ≡ status.OutOfMemory → r ≡ OutOfMemory
+config_memory ReadFault is = cc
+config_memory TooLong is = cc
+config_memory (Bad f) is = cc
+config_memory OutOfMemory is = refl
+
 -- a refusal that is decided is no want of memory
 decided_other : (r : Refusal) → IsDecided r → status_of_refusal r ≡ status.OutOfMemory → ⊥
 decided_other Misused decided is = cc

@@ -1,5 +1,5 @@
 -- What a snapshot shows while the steps of a run are taken.
-use Rattle.std.proofs.Common.{◌≡◌, ℕ, zero, suc, ◌+◌, List, [], ◌∷◌, ◌++◌, Option, Some, None, Result, Ok, Err, refl, sym, ap, subst, ◌∙◌, take}
+use Rattle.std.proofs.Common.{◌≡◌, ℕ, zero, suc, ◌+◌, List, [], ◌∷◌, Option, Some, None, Result, Ok, Err, refl, sym, ap, subst, ◌∙◌, take}
 use Rattle.std.specs.Prelude.{OnOk, slice_get}
 use Rattle.cover_table.specs.Snapshots.{Publication}
 use Rattle.router_config.specs.declared.edits.Edit.{Edit}

@@ -1,5 +1,5 @@
 -- What a pull knows of its session where it stops. Our own choice.
-use Rattle.std.specs.Prelude.{◌≡◌, ℕ, min, List, length, slice_get, Option, Some}
+use Rattle.std.specs.Prelude.{◌≡◌, ℕ, min, List, length, slice_get, Some}
 use Rattle.feed_io.specs.Events.{Event}
 use Rattle.control_core.specs.FeedCalls.{Gave}
 use Rattle.control_core.specs.Items.{AreItems, Item}

@@ -1,6 +1,6 @@
 //! `offline CONFIG BOOK PAIRS S...`: runs a runbook over a table of pairs and the feeds of the sessions
 //! of a configuration.
-ghost use Rattle.std.specs.Prelude.{◌≡◌, ◌↔◌, ◌⊎◌, ℕ, IfSome, List, Result, length, map, string_bytes};
+ghost use Rattle.std.specs.Prelude.{◌≡◌, ◌↔◌, ◌⊎◌, ◌<◌, ℕ, IfSome, List, Result, length, map, string_bytes};
 ghost use Rattle.urpf_base.specs.Faults.{CountsFault, Rose};
 ghost use Rattle.feed_io.specs.Events.{Event};
 ghost use Rattle.router_config.specs.Settings.{Settings};
@@ -94,6 +94,9 @@ pub fn offline<S: Source, K: Sink>(
         → AreTold (S.left config.old) (S.left book.old) (S.left pairs.old) t
         → (settings : Settings) × (rows : List (ℕ × BookLine)) × Configures t.config settings
         × IsRunbook settings t.book rows }
+    // An empty configuration is refused without memory.
+    ensures memory_after { result ≡ Status.OutOfMemory
+        → IfSome (S.left config.old) (λ text. 0 < length text) }
     ensures nowhere { (are : AreOfflineWords (map string_bytes words.now)) → are.pairs ≡ nowhere
         → pairs.new ≡ pairs.old }
 

@@ -1,7 +1,7 @@
 //! What comes before a run: words, the sources of a configuration, a runbook and a table of pairs, and
 //! a number of sessions come in, and what was read goes out, or why no run begins.
 ghost use Rattle.std.specs.Prelude.{◌≡◌, ◌⊎◌, ◌↔◌, ℕ, Err, IfErr, IfOk, IfSome, List, Ok};
-ghost use Rattle.std.specs.Prelude.{◌≤◌, Option, Some, length, map, string_bytes};
+ghost use Rattle.std.specs.Prelude.{◌≤◌, ◌<◌, Option, Some, length, map, string_bytes};
 ghost use Rattle.std.specs.Result.{IsErrAnd};
 ghost use Rattle.urpf_base.specs.Faults.{CountsFault};
 ghost use Rattle.router_config.specs.declared.faults.ConfigFault.{ConfigFault};
@@ -15,7 +15,9 @@ ghost use Rattle.urpf_cli.specs.declared.refusals.TextRefusal.{TextRefusal};
 ghost use Rattle.urpf_cli.specs.declared.refusals.TooManyPairs.{TooManyPairs};
 ghost use Rattle.urpf_cli.specs.Openings.{AreTold, Configures, IsBookRefused, IsConfigRefused, IsDecided, IsFailure};
 ghost use Rattle.urpf_cli.specs.Openings.{IsReady, IsRefused, IsRunbook, Opens, Texts};
+ghost use Rattle.urpf_cli.specs.Statuses.{status_of_refusal};
 ghost use Rattle.urpf_cli.specs.TextRefusals.{IsTextFailure};
+ghost use Rattle.urpf_cli.specs.declared.status.Status.{Status};
 ghost use Rattle.urpf_cli.specs.Words.{AreOfflineWords, nowhere};
 
 use crate::pair_table::open_pairs;
@@ -87,6 +89,10 @@ pub fn open_run<S: Source>(
         → (book.new ≡ book.old) × (pairs.new ≡ pairs.old) }
     ensures unread { (r : TextRefusal BookFault) → result ≡ Err (Refusal.Book r)
         → pairs.new ≡ pairs.old }
+    // An empty configuration is refused without memory.
+    ensures some { IfOk result (λ o. IfSome (S.left config.old) (λ text. 0 < length text)) }
+    ensures memory { IfErr result (λ r. status_of_refusal r ≡ Status.OutOfMemory
+        → IfSome (S.left config.old) (λ text. 0 < length text)) }
     // A text is read only where those before it are good.
     ensures config_before { (r : TextRefusal BookFault) → result ≡ Err (Refusal.Book r)
         → IfSome (S.left config.old) (λ text. (settings : Settings) × Configures text settings) }
@@ -132,6 +138,9 @@ fn open_config<S: Source>(alloc: Global, source: &mut S) -> Result<Config, TextR
         (λ text. Configures text config)) }
     ensures refused { IfErr result (λ r. ¬ (IsTextFailure r) → IfSome (S.left source.old)
         (λ text. IsConfigRefused text r)) }
+    ensures some { IfOk result (λ config. IfSome (S.left source.old) (λ text. 0 < length text)) }
+    ensures memory { result ≡ Err TextRefusal.OutOfMemory
+        → IfSome (S.left source.old) (λ text. 0 < length text) }
     ensures cause { CountsFault (result ≡ Err TextRefusal.ReadFault)
         (S.faults source.old) (S.faults source.new) }
 {

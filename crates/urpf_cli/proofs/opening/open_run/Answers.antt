@@ -1,4 +1,4 @@
-use Rattle.std.proofs.Common.{◌≡◌, min, map, string_bytes, inl, inr, rules, subst, sym, ◌∙◌}
+use Rattle.std.proofs.Common.{◌≡◌, Err, ap, min, map, string_bytes, inl, inr, rules, subst, sym, ◌∙◌}
 use Rattle.std.specs.Prelude.{IfSome}
 use Rattle.urpf_cli.specs.PairTables.{HasTable, IsPairsRefused}
 use Rattle.urpf_cli.specs.TextRefusals.{IsTextFailure}
@@ -7,7 +7,12 @@ use Rattle.urpf_cli.specs.declared.refusals.Refusal.TheVariants.{Book, Config, P
 use Rattle.urpf_cli.proofs.OpeningLaws.{book_told, config_told, count_told, fails_if_opens, one_opening}
 use Rattle.urpf_cli.proofs.OpeningLaws.{opens_or_refused, opens_told, pairs_told, same_error_or_fails, same_opening}
 use Rattle.urpf_cli.proofs.OpeningLaws.{same_or_fails, some_configured, texts_good}
+use Rattle.urpf_cli.proofs.RefusalStatuses.{config_memory}
 use Rattle.urpf_cli.proofs.opening.open_run.Goals as goal
+
+pub returns-in-Err-clause-memory : goal.returns-in-Err-clause-memory
+returns-in-Err-clause-memory g c = λ is.
+    c.in-Err.ensures.memory (ap (λ r. Err r) (config_memory c.in-Err.refusal is))
 
 pub returns-in-Err-clause-only : goal.returns-in-Err-clause-only
 returns-in-Err-clause-only g c = λ texts settings rows table are opens.

@@ -3,7 +3,8 @@ use Rattle.std.specs.List.{list_any}
 use Rattle.cover_table.specs.Judging.{admits}
 use Rattle.cover_table.specs.Trees.{Tree, addr_of, rows_of, size}
 use Rattle.cover_table.proofs.Blocks.{half_is, two_halves}
-use Rattle.cover_table.proofs.Joining.{fails, holds, left_ready, node_within, right_ready}
+use Rattle.cover_table.proofs.Joining.{left_ready, node_within, right_ready}
+use Rattle.cover_table.proofs.Apart.{fails, holds}
 use Rattle.cover_table.proofs.Looking.{few_bits, look_here, look_last, look_left, look_none, look_right}
 use Rattle.cover_table.proofs.Standing.{at_place, stands_within}
 use Rattle.cover_table.proofs.Writing.{by_none}

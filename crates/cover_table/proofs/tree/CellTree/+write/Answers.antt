@@ -5,7 +5,8 @@ use Rattle.cover_table.specs.declared.nodes.Node.{Node}
 use Rattle.cover_table.specs.Trees.{AreApart, IsReady, IsWithin, Results, change_for, rows_of, size, no_place}
 use Rattle.cover_table.proofs.Blocks.{fork_fits, half_is}
 use Rattle.cover_table.proofs.Descending.{left_whole, on_left, on_right, right_whole}
-use Rattle.cover_table.proofs.Joining.{apart_longer, apart_turned, fails, grown_left, grown_right, holds, left_ready}
+use Rattle.cover_table.proofs.Joining.{grown_left, grown_right, left_ready}
+use Rattle.cover_table.proofs.Apart.{apart_longer, apart_turned, fails, holds}
 use Rattle.cover_table.proofs.Joining.{node_within, rewritten, right_ready}
 use Rattle.cover_table.proofs.Standing.{at_place, stands_within}
 use Rattle.cover_table.proofs.Writing.{hung_at, results_ready, then_tidied}

@@ -1,5 +1,5 @@
 use Rattle.std.proofs.Common.{◌∙◌, ap, set, refl, arith}
-use Rattle.cover_table.proofs.Joining.{chain_again', joined_right, same_length}
+use Rattle.cover_table.proofs.Forking.{chain_again', joined_right, same_length}
 use Rattle.cover_table.proofs.Writing.{chain_within}
 use Rattle.cover_table.proofs.tree.CellTree.join_right.Goals as goal
 

@@ -1,7 +1,8 @@
 use Rattle.std.proofs.Common.{◌+◌, sym, ◌∙◌, subst, arith}
 use Rattle.cover_table.specs.declared.nodes.Node.{Node}
 use Rattle.cover_table.specs.Trees.{AreApart, size}
-use Rattle.cover_table.proofs.Joining.{apart_above, apart_below, beside_left, beside_none, beside_right, moved_ready, node_within}
+use Rattle.cover_table.proofs.Joining.{beside_left, beside_none, beside_right, moved_ready, node_within}
+use Rattle.cover_table.proofs.Apart.{apart_above, apart_below}
 use Rattle.cover_table.proofs.Standing.{at_place}
 use Rattle.cover_table.proofs.tree.CellTree.put_beside.Goals as goal
 

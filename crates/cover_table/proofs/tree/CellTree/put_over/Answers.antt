@@ -2,7 +2,8 @@ use Rattle.std.proofs.Common.{◌<◌, sym, ◌∙◌, ap, subst, arith}
 use Rattle.cover_table.specs.declared.nodes.Node.{Node}
 use Rattle.cover_table.specs.Trees.{AreApart}
 use Rattle.cover_table.proofs.Blocks.{fork_fits, half_is}
-use Rattle.cover_table.proofs.Joining.{apart_longer, fails, holds, node_within, over_left, over_none, over_right}
+use Rattle.cover_table.proofs.Joining.{node_within, over_left, over_none, over_right}
+use Rattle.cover_table.proofs.Apart.{apart_longer, fails, holds}
 use Rattle.cover_table.proofs.Standing.{at_place}
 use Rattle.cover_table.proofs.Writing.{chain_within}
 use Rattle.cover_table.proofs.tree.CellTree.put_over.Goals as goal

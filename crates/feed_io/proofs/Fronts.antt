@@ -15,7 +15,8 @@ use Rattle.feed_io.specs.declared.trace_head.TheConstants.{UP, OCTETS, DOWN, ELA
 
 -- ---- what is left behind an event is shorter
 
-behind : {X : Type 0} (x y : X) (a b : List ℕ) → ◌≡◌ {A = Option (X × List ℕ)} (Some (x, a)) (Some (y, b)) → a ≡ b
+-- what is behind a value that was found is one text
+pub behind : {X : Type 0} (x y : X) (a b : List ℕ) → ◌≡◌ {A = Option (X × List ℕ)} (Some (x, a)) (Some (y, b)) → a ≡ b
 behind {X = X} x y a b same =
     let other : X × List ℕ = (y, b) in
     ap (λ (found : Option (X × List ℕ)). (unwrap_or found other).1) same

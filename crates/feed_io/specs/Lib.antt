@@ -2,6 +2,7 @@ pub mod Events
 pub mod GenWords
 pub mod Generated
 pub mod Memory
+pub mod Packets
 pub mod Spelling
 pub mod Stored
 pub mod TraceFeeds

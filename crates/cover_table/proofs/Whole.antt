@@ -10,7 +10,7 @@ use Rattle.cover_table.specs.declared.nodes.Node.{Node}
 use Rattle.cover_table.specs.declared.tree.CellTree.{CellTree}
 use Rattle.cover_table.specs.Rows.{rows_written}
 use Rattle.cover_table.specs.Trees.{Tree, Empty, Branch, Holds, IsAt, IsChain, IsOrdered, IsReady, IsWhole, IsWithin, Results}
-use Rattle.cover_table.specs.Trees.{Stands, change_for, grown, listed, no_place, occurs, one, rows_of, size, tree_at, tree_of}
+use Rattle.cover_table.specs.Trees.{Stands, change_for, grown, listed, no_place, occurs, one, rows_of, size, spare_nodes, tree_at, tree_of}
 use Rattle.cover_table.proofs.Blocks.{covered_within, from_parts, size_is}
 use Rattle.cover_table.proofs.Standing.{chain_kept, one_other, stands_kept}
 use Rattle.cover_table.proofs.Turning.{turned_holds}
@@ -107,8 +107,8 @@ module _ (old mid : CellTree) (w r : ℕ) (entry : Entry) (few : w ≤ 128) (who
       ∙ done.written
       ∙ ap (λ t. rows_written (change_for w entry) (rows_of w t)) (sym (tree_is old w few whole.ready))
 
-  pub absorbed_freed : old.freed ≤ mid.freed + 2
-  absorbed_freed = omega (arith, done.taken, done.turns.freed, whole.ready.holds.freed)
+  pub absorbed_spare : mid.nodes.room ≡ old.nodes.room → spare_nodes old ≤ spare_nodes (record mid { root = r }) + 2
+  absorbed_spare room = omega (arith, room, done.taken, done.turns.freed, whole.ready.holds.freed)
 
 -- each prefix is within the block of all addresses
 pub within_all : (w : ℕ) (entry : Entry) → entry.len ≤ w → cleared w entry.len entry.bits ≡ entry.bits

@@ -184,11 +184,17 @@ pub record IsWhole (width : ℕ) (nodes : CellTree) : Type 0 where
 abbrev pub all_rows : CellTree → CellTree → List (Block × Cell)
 all_rows short long = rows_of 32 (tree_of short) ++ rows_of 128 (tree_of long)
 
+-- how many nodes a tree can take without memory: those that are free, and those that can be added
+abbrev pub spare_nodes : CellTree → ℕ
+spare_nodes nodes = nodes.freed + nodes.nodes.room
+
 -- how many more cells both trees can take in: a cell may need two nodes
 abbrev pub spare_of : CellTree → CellTree → ℕ
-spare_of short long = min short.freed long.freed / 2
+spare_of short long = min (spare_nodes short) (spare_nodes long) / 2
 
--- both trees are whole
+-- both trees are whole, and their nodes have room for the addresses of their families
 pub record AreTrees (first second : CellTree) : Type 0 where
   pub four : IsWhole 32 first
   pub six : IsWhole 128 second
+  pub highest_four : first.nodes.highest ≡ 2 ^ 32 - 1
+  pub highest_six : second.nodes.highest ≡ 2 ^ 128 - 1

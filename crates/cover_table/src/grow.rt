@@ -1,8 +1,6 @@
 //! How a tree gets more free nodes.
-ghost use Rattle.std.specs.Prelude.{◌≡◌, ℕ, [], ◌∷◌, ◌++◌, ◌+◌, ◌-◌, ◌^◌, ◌≤◌, ◌<◌, OnOk, OnErr, length};
-ghost use Rattle.std.specs.Vec.{vec_capacity};
-ghost use Rattle.cover_table.specs.declared.nodes.Node.{Node};
-ghost use Rattle.cover_table.specs.Trees.{IsWhole, link_of, tree_of};
+ghost use Rattle.std.specs.Prelude.{◌≡◌, ℕ, [], ◌∷◌, ◌++◌, ◌+◌, ◌^◌, ◌≤◌, ◌<◌, OnOk, OnErr, length};
+ghost use Rattle.cover_table.specs.Trees.{IsWhole, link_of, spare_nodes, tree_of};
 
 use crate::nodes::{Entry, NONE, Node};
 use crate::tree::CellTree;
@@ -12,50 +10,44 @@ impl CellTree {
     /// Makes room for as many nodes as are wanting to so many free ones. It is refused where memory
     /// is, and where there would be no numbers for them.
     pub fn make_room(&mut self, nodes: usize) -> Result<(), OutOfMemory>
-        requires { length self.old.nodes.items ≤ 4294967295 }
-        ensures room { OnOk result
-            (length self.new.nodes.items + (nodes - self.new.freed) ≤ vec_capacity self.new.nodes) }
-        ensures numbers { OnOk result (length self.new.nodes.items + (nodes - self.new.freed) ≤ 4294967295) }
-        ensures missing { OnErr result (self.old.freed < nodes) }
+        ensures room { OnOk result (nodes ≤ spare_nodes self.new) }
+        ensures kept { spare_nodes self.old ≤ spare_nodes self.new }
+        ensures err { OnErr result (self.new.nodes.room ≡ self.old.nodes.room) }
+        ensures missing { OnErr result (spare_nodes self.old < nodes) }
         ensures whole { (width : ℕ) → IsWhole width self.old → IsWhole width self.new }
         ensures tree { tree_of self.new ≡ tree_of self.old }
-        ensures nodes { length self.new.nodes.items ≡ length self.old.nodes.items }
         ensures freed { self.new.freed ≡ self.old.freed }
+        ensures highest { self.new.nodes.highest ≡ self.old.nodes.highest }
     {
         if nodes <= self.freed {
             return Ok(());
         }
-        let more = nodes - self.freed;
-        if more > NONE as usize - self.nodes.len() {
-            return Err(OutOfMemory);
-        }
-        self.extend(more)
+        self.nodes.make_room(nodes - self.freed)
     }
 
-    /// Makes room for so many nodes more.
-    fn extend(&mut self, more: usize) -> Result<(), OutOfMemory>
-        ensures room { OnOk result (length self.new.nodes.items + more ≤ vec_capacity self.new.nodes) }
-        ensures nodes { self.new.nodes.items ≡ self.old.nodes.items }
-        ensures root { self.new.root ≡ self.old.root }
-        ensures free { self.new.free ≡ self.old.free }
+    /// Gives up the room above this. The free nodes stay.
+    pub fn lower_room(&mut self, room: usize)
+        requires { room ≤ self.old.nodes.room }
+        ensures room { self.new.nodes.room ≡ room }
+        ensures whole { (width : ℕ) → IsWhole width self.old → IsWhole width self.new }
+        ensures tree { tree_of self.new ≡ tree_of self.old }
         ensures freed { self.new.freed ≡ self.old.freed }
+        ensures highest { self.new.nodes.highest ≡ self.old.nodes.highest }
     {
-        let Ok(()) = self.nodes.try_reserve(more) else {
-            return Err(OutOfMemory);
-        };
-        Ok(())
+        self.nodes.lower_room(room);
     }
 
-    /// Adds nodes that are free until there are so many, for which there is room.
+    /// Adds nodes that are free until there are so many, for which there is room. It takes no
+    /// memory.
     pub fn fill(&mut self, width: u8, nodes: usize)
         requires width { width ≤ 128 }
         requires whole { IsWhole width self.old }
-        requires room { length self.old.nodes.items + (nodes - self.old.freed) ≤ vec_capacity self.old.nodes }
-        requires numbers { length self.old.nodes.items + (nodes - self.old.freed) ≤ 4294967295 }
+        requires room { nodes ≤ spare_nodes self.old }
         ensures whole { IsWhole width self.new }
         ensures tree { tree_of self.new ≡ tree_of self.old }
         ensures freed { nodes ≤ self.new.freed }
-        ensures kept { self.old.freed ≤ self.new.freed }
+        ensures spare { spare_nodes self.new ≡ spare_nodes self.old }
+        ensures highest { self.new.nodes.highest ≡ self.old.nodes.highest }
     {
         while self.freed < nodes {
             self.add_free();
@@ -64,20 +56,17 @@ impl CellTree {
 
     /// Adds a node that is free.
     fn add_free(&mut self)
-        requires room { length self.old.nodes.items < vec_capacity self.old.nodes }
-        requires numbers { length self.old.nodes.items < 4294967295 }
+        requires room { 0 < self.old.nodes.room }
         requires few { self.old.freed < 2 ^ 32 }
         ensures nodes { self.new.nodes.items ≡ self.old.nodes.items ++ link_of self.old.free ∷ [] }
         ensures free { self.new.free ≡ length self.old.nodes.items }
         ensures freed { self.new.freed ≡ self.old.freed + 1 }
         ensures root { self.new.root ≡ self.old.root }
-        ensures capacity { vec_capacity self.old.nodes ≤ vec_capacity self.new.nodes }
+        ensures room { self.new.nodes.room + 1 ≡ self.old.nodes.room }
+        ensures highest { self.new.nodes.highest ≡ self.old.nodes.highest }
+        ensures numbers { length self.new.nodes.items ≤ 4294967295 }
     {
-        let place = self.nodes.len() as u32;
-        let Ok(()) = self.nodes.push(link(self.free)) else {
-            unreachable!()
-        };
-        self.free = place;
+        self.free = self.nodes.push(link(self.free));
         self.freed += 1;
     }
 }

@@ -37,7 +37,7 @@ impl CellTree {
         if at == NONE {
             return false;
         }
-        let node = self.nodes[at as usize];
+        let node = self.nodes.get(at);
         steps.tick();
         if !node.entry.covers(width, bits) {
             return false;

@@ -7,6 +7,7 @@ ghost use Rattle.cover_table.specs.Tables.{written};
 ghost use Rattle.cover_table.specs.Trees.{entry_for};
 
 use crate::judging::is_off;
+use crate::node_list::NodeList;
 use crate::nodes::Entry;
 use crate::tree::CellTree;
 use std::alloc::Global;
@@ -54,8 +55,8 @@ impl CoverTable {
         ensures { result.cells ≡ map.empty }
     {
         CoverTable {
-            short: CellTree::new(alloc),
-            long: CellTree::new(alloc),
+            short: CellTree::new(NodeList::short(alloc)),
+            long: CellTree::new(NodeList::long(alloc)),
         }
     }
 
@@ -68,15 +69,16 @@ impl CoverTable {
         ensures err { OnErr result (self.new ≡ self.old) }
         ensures missing { OnErr result (self.old.spare < n) }
     {
-        let _ = &self.short;
+        let before = self.short.nodes.room();
         if n > CELLS_MOST {
             return Err(OutOfMemory);
         }
         let nodes = 2 * n;
         self.short.make_room(nodes)?;
-        self.long.make_room(nodes)?;
-        self.short.fill(V4_BITS, nodes);
-        self.long.fill(V6_BITS, nodes);
+        let Ok(()) = self.long.make_room(nodes) else {
+            self.short.lower_room(before);
+            return Err(OutOfMemory);
+        };
         Ok(())
     }
 

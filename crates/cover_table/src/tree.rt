@@ -5,48 +5,53 @@ ghost use Rattle.urpf_base.specs.Address.{cleared};
 ghost use Rattle.cover_table.specs.Rows.{rows_written};
 ghost use Rattle.cover_table.specs.declared.nodes.Node.{Node};
 ghost use Rattle.cover_table.specs.Trees.{AreApart, IsReady, IsWhole, IsWithin, Results, change_for, own_rows, rows_of};
-ghost use Rattle.cover_table.specs.Trees.{size, tree_of};
+ghost use Rattle.cover_table.specs.Trees.{size, spare_nodes, tree_of};
 
 use crate::forks::fork_of;
+use crate::node_list::NodeList;
 use crate::nodes::{Entry, NONE, Node, half};
-use std::alloc::Global;
 
 /// The nodes of a tree, in one vector, by whose places they name each other. Those that are free
 /// are linked by their left children.
 #[derive(Drop)]
 pub struct CellTree {
-    pub nodes: Vec<Node>,
+    pub nodes: NodeList,
     pub root: u32,
     pub free: u32,
     pub freed: usize,
 }
 
 impl CellTree {
-    /// A tree of no cells. It takes no memory.
-    pub fn new(alloc: Global) -> CellTree
+    /// A tree of no cells, in a list of no nodes. It takes no memory.
+    pub fn new(nodes: NodeList) -> CellTree
+        requires { nodes.items ≡ [] }
         ensures whole { (width : ℕ) → IsWhole width result }
         ensures rows { (width : ℕ) → rows_of width (tree_of result) ≡ [] }
         ensures freed { result.freed ≡ 0 }
+        ensures nodes { result.nodes ≡ nodes }
     {
         CellTree {
-            nodes: Vec::new(alloc),
+            nodes,
             root: NONE,
             free: NONE,
             freed: 0,
         }
     }
 
-    /// Writes the entry. It takes no memory, and two free nodes at most.
+    /// Writes the entry. It takes no memory, and two nodes at most.
     pub fn absorb(&mut self, width: u8, entry: &Entry)
         requires width { width ≤ 128 }
         requires whole { IsWhole width self.old }
         requires within { IsWithin width 0 0 entry.now }
-        requires room { 2 ≤ self.old.freed }
+        requires room { 2 ≤ spare_nodes self.old }
+        requires fits { entry.now.bits ≤ self.old.nodes.highest }
         ensures whole { IsWhole width self.new }
         ensures rows { rows_of width (tree_of self.new)
             ≡ rows_written (change_for width entry.now) (rows_of width (tree_of self.old)) }
-        ensures freed { self.old.freed ≤ self.new.freed + 2 }
+        ensures spare { spare_nodes self.old ≤ spare_nodes self.new + 2 }
+        ensures highest { self.new.nodes.highest ≡ self.old.nodes.highest }
     {
+        self.fill(width, 2);
         self.root = self.write(width, self.root, 0, 0, entry);
     }
 
@@ -58,15 +63,18 @@ impl CellTree {
         requires within { IsWithin width low depth entry.now }
         requires whole { cleared width depth low ≡ low }
         requires room { 2 ≤ self.old.freed }
+        requires fits { entry.now.bits ≤ self.old.nodes.highest }
         ensures results { (ready : IsReady self.old width at low depth)
             → Results self.old self.new width low depth ready.tree ready.free result
             (rows_written (change_for width entry.now) (rows_of width ready.tree)) 2 }
         ensures root { self.new.root ≡ self.old.root }
+        ensures room { self.new.nodes.room ≡ self.old.nodes.room }
+        ensures highest { self.new.nodes.highest ≡ self.old.nodes.highest }
     {
         if at == NONE {
             return self.hang(width, low, depth, entry);
         }
-        let node = self.nodes[at as usize];
+        let node = self.nodes.get(at);
         if node.entry.len > entry.len {
             return self.put_over(width, at, low, depth, entry);
         }
@@ -93,10 +101,13 @@ impl CellTree {
         requires ready { IsReady self.old width 4294967295 low depth }
         requires within { IsWithin width low depth entry.now }
         requires room { 1 ≤ self.old.freed }
+        requires fits { entry.now.bits ≤ self.old.nodes.highest }
         ensures results { (ready : IsReady self.old width 4294967295 low depth)
             → Results self.old self.new width low depth ready.tree ready.free result
             (rows_written (change_for width entry.now) (rows_of width ready.tree)) 1 }
         ensures root { self.new.root ≡ self.old.root }
+        ensures room { self.new.nodes.room ≡ self.old.nodes.room }
+        ensures highest { self.new.nodes.highest ≡ self.old.nodes.highest }
     {
         if entry.is_empty() {
             return NONE;
@@ -114,12 +125,15 @@ impl CellTree {
         requires longer { (other : Node)
             → entry.now.len < (slice_index_or self.old.nodes.items at other).entry.len }
         requires room { 2 ≤ self.old.freed }
+        requires fits { entry.now.bits ≤ self.old.nodes.highest }
         ensures results { (ready : IsReady self.old width at low depth)
             → Results self.old self.new width low depth ready.tree ready.free result
             (rows_written (change_for width entry.now) (rows_of width ready.tree)) 2 }
         ensures root { self.new.root ≡ self.old.root }
+        ensures room { self.new.nodes.room ≡ self.old.nodes.room }
+        ensures highest { self.new.nodes.highest ≡ self.old.nodes.highest }
     {
-        let node = self.nodes[at as usize];
+        let node = self.nodes.get(at);
         if !entry.covers(width, node.entry.bits) {
             return self.put_beside(width, at, low, depth, entry);
         }
@@ -145,16 +159,19 @@ impl CellTree {
     fn take(&mut self, node: Node) -> u32
         requires within { self.old.free < length self.old.nodes.items }
         requires some { 0 < self.old.freed }
+        requires fits { node.entry.bits ≤ self.old.nodes.highest }
         ensures place { result ≡ self.old.free }
         ensures nodes { self.new.nodes.items ≡ slice_set self.old.nodes.items self.old.free node }
         ensures free { (other : Node)
             → self.new.free ≡ (slice_index_or self.old.nodes.items self.old.free other).left }
         ensures freed { self.new.freed + 1 ≡ self.old.freed }
         ensures root { self.new.root ≡ self.old.root }
+        ensures room { self.new.nodes.room ≡ self.old.nodes.room }
+        ensures highest { self.new.nodes.highest ≡ self.old.nodes.highest }
     {
         let place = self.free;
-        self.free = self.nodes[place as usize].left;
-        self.nodes[place as usize] = node;
+        self.free = self.nodes.get(place).left;
+        self.nodes.set(place, node);
         self.freed -= 1;
         place
     }
@@ -168,22 +185,31 @@ impl CellTree {
         ensures free { self.new.free ≡ place }
         ensures freed { self.new.freed ≡ self.old.freed + 1 }
         ensures root { self.new.root ≡ self.old.root }
+        ensures room { self.new.nodes.room ≡ self.old.nodes.room }
+        ensures highest { self.new.nodes.highest ≡ self.old.nodes.highest }
     {
-        self.nodes[place as usize].left = self.free;
+        let mut node = self.nodes.get(place);
+        node.left = self.free;
+        self.nodes.set(place, node);
         self.free = place;
         self.freed += 1;
     }
 
     /// Gives the node another entry.
     fn set_entry(&mut self, at: u32, entry: &Entry)
-        requires { at < length self.old.nodes.items }
+        requires within { at < length self.old.nodes.items }
+        requires fits { entry.now.bits ≤ self.old.nodes.highest }
         ensures nodes { (other : Node) → self.new.nodes.items ≡ slice_set self.old.nodes.items at
             (record (slice_index_or self.old.nodes.items at other) { entry = entry.now }) }
         ensures free { self.new.free ≡ self.old.free }
         ensures freed { self.new.freed ≡ self.old.freed }
         ensures root { self.new.root ≡ self.old.root }
+        ensures room { self.new.nodes.room ≡ self.old.nodes.room }
+        ensures highest { self.new.nodes.highest ≡ self.old.nodes.highest }
     {
-        self.nodes[at as usize].entry = *entry;
+        let mut node = self.nodes.get(at);
+        node.entry = *entry;
+        self.nodes.set(at, node);
     }
 
     /// Gives the node another child on the left.
@@ -194,8 +220,12 @@ impl CellTree {
         ensures free { self.new.free ≡ self.old.free }
         ensures freed { self.new.freed ≡ self.old.freed }
         ensures root { self.new.root ≡ self.old.root }
+        ensures room { self.new.nodes.room ≡ self.old.nodes.room }
+        ensures highest { self.new.nodes.highest ≡ self.old.nodes.highest }
     {
-        self.nodes[at as usize].left = child;
+        let mut node = self.nodes.get(at);
+        node.left = child;
+        self.nodes.set(at, node);
     }
 
     /// Gives the node another child on the right.
@@ -206,8 +236,12 @@ impl CellTree {
         ensures free { self.new.free ≡ self.old.free }
         ensures freed { self.new.freed ≡ self.old.freed }
         ensures root { self.new.root ≡ self.old.root }
+        ensures room { self.new.nodes.room ≡ self.old.nodes.room }
+        ensures highest { self.new.nodes.highest ≡ self.old.nodes.highest }
     {
-        self.nodes[at as usize].right = child;
+        let mut node = self.nodes.get(at);
+        node.right = child;
+        self.nodes.set(at, node);
     }
 
     /// Gives the node back where it has no cell and parts nothing. Answers where its tree begins
@@ -219,8 +253,10 @@ impl CellTree {
             → Results self.old self.new width low depth ready.tree ready.free result
             (rows_of width ready.tree) 0 }
         ensures root { self.new.root ≡ self.old.root }
+        ensures room { self.new.nodes.room ≡ self.old.nodes.room }
+        ensures highest { self.new.nodes.highest ≡ self.old.nodes.highest }
     {
-        let node = self.nodes[at as usize];
+        let node = self.nodes.get(at);
         if !node.entry.is_empty() {
             return at;
         }
@@ -245,12 +281,15 @@ impl CellTree {
         requires beside { (other : Node)
             → AreApart width (slice_index_or self.old.nodes.items at other).entry entry.now }
         requires room { 2 ≤ self.old.freed }
+        requires fits { entry.now.bits ≤ self.old.nodes.highest }
         ensures results { (ready : IsReady self.old width at low depth)
             → Results self.old self.new width low depth ready.tree ready.free result
             (rows_written (change_for width entry.now) (rows_of width ready.tree)) 2 }
         ensures root { self.new.root ≡ self.old.root }
+        ensures room { self.new.nodes.room ≡ self.old.nodes.room }
+        ensures highest { self.new.nodes.highest ≡ self.old.nodes.highest }
     {
-        let node = self.nodes[at as usize];
+        let node = self.nodes.get(at);
         if entry.is_empty() {
             return at;
         }
@@ -266,12 +305,16 @@ impl CellTree {
     fn join_left(&mut self, at: u32, fork: Entry, entry: &Entry) -> u32
         requires ready { (width low depth : ℕ) × IsReady self.old width at low depth }
         requires room { 2 ≤ self.old.freed }
+        requires fork { fork.bits ≤ self.old.nodes.highest }
+        requires fits { entry.now.bits ≤ self.old.nodes.highest }
         ensures results { (width low depth : ℕ) → IsWithin width low depth fork
             → IsWithin width fork.bits (fork.len + 1) entry.now
             → (ready : IsReady self.old width at (fork.bits + size width (fork.len + 1)) (fork.len + 1))
             → Results self.old self.new width low depth ready.tree ready.free result
             (own_rows width fork ++ ((own_rows width entry.now ++ []) ++ rows_of width ready.tree)) 2 }
         ensures root { self.new.root ≡ self.old.root }
+        ensures room { self.new.nodes.room ≡ self.old.nodes.room }
+        ensures highest { self.new.nodes.highest ≡ self.old.nodes.highest }
     {
         let top = self.take(Node {
             entry: fork,
@@ -287,12 +330,16 @@ impl CellTree {
     fn join_right(&mut self, at: u32, fork: Entry, entry: &Entry) -> u32
         requires ready { (width low depth : ℕ) × IsReady self.old width at low depth }
         requires room { 2 ≤ self.old.freed }
+        requires fork { fork.bits ≤ self.old.nodes.highest }
+        requires fits { entry.now.bits ≤ self.old.nodes.highest }
         ensures results { (width low depth : ℕ) → IsWithin width low depth fork
             → IsWithin width (fork.bits + size width (fork.len + 1)) (fork.len + 1) entry.now
             → (ready : IsReady self.old width at fork.bits (fork.len + 1))
             → Results self.old self.new width low depth ready.tree ready.free result
             (own_rows width fork ++ (rows_of width ready.tree ++ (own_rows width entry.now ++ []))) 2 }
         ensures root { self.new.root ≡ self.old.root }
+        ensures room { self.new.nodes.room ≡ self.old.nodes.room }
+        ensures highest { self.new.nodes.highest ≡ self.old.nodes.highest }
     {
         let top = self.take(Node {
             entry: fork,

@@ -16,8 +16,8 @@ returns-then-at-eq-NONE-clause-value g t c low fits ready =
     (rows_of c.args.width tree)) c.args.self.now c.args.at ready.tree ready.holds.stands ready.holds.numbered
     c.if-at-eq-NONE.true refl
 
-pub index-requires : goal.index-requires
-index-requires g t c =
+pub get-node-requires : goal.get-node-requires
+get-node-requires g t c =
     let ready = c.requires.ready.2 in
     let placed : c.args.at < length c.args.self.now.nodes.items =
     stands_within c.args.self.now.nodes.items c.args.at ready.tree ready.holds.stands c.if-at-eq-NONE.false in
@@ -28,8 +28,8 @@ covers-requires-clause-within g t c =
     let ready = c.requires.ready.2 in
     let placed : c.args.at < length c.args.self.now.nodes.items =
     stands_within c.args.self.now.nodes.items c.args.at ready.tree ready.holds.stands c.if-at-eq-NONE.false in
-    let node = c.index.result.now in
-    let here = at_place c.args.self.now.nodes.items c.args.at node placed c.index.ensures in
+    let node = c.get-node.result in
+    let here = at_place c.args.self.now.nodes.items c.args.at node placed c.get-node.ensures.node in
     let low = c.requires.ready.0 in
     let outer = node_within c.args.self.now c.args.width low c.args.depth c.args.at node here c.if-at-eq-NONE.false ready in
     let few = few_bits c.args.width c.requires.width in
@@ -43,8 +43,8 @@ pub returns-then-not-covers-clause-value : goal.returns-then-not-covers-clause-v
 returns-then-not-covers-clause-value g t c low fits ready =
     let placed : c.args.at < length c.args.self.now.nodes.items =
     stands_within c.args.self.now.nodes.items c.args.at ready.tree ready.holds.stands c.if-at-eq-NONE.false in
-    let node = c.index.result.now in
-    let here = at_place c.args.self.now.nodes.items c.args.at node placed c.index.ensures in
+    let node = c.get-node.result in
+    let here = at_place c.args.self.now.nodes.items c.args.at node placed c.get-node.ensures.node in
     let outer = node_within c.args.self.now c.args.width low c.args.depth c.args.at node here c.if-at-eq-NONE.false ready in
     look_none c.args.mode c.args.iface c.args.width c.args.bits c.requires.width c.requires.bits c.args.self.now low c.args.depth
     c.args.at node here c.if-at-eq-NONE.false ready fits
@@ -55,8 +55,8 @@ returns-then-not-covers-clause-bound g t c =
     let ready = c.requires.ready.2 in
     let placed : c.args.at < length c.args.self.now.nodes.items =
     stands_within c.args.self.now.nodes.items c.args.at ready.tree ready.holds.stands c.if-at-eq-NONE.false in
-    let node = c.index.result.now in
-    let here = at_place c.args.self.now.nodes.items c.args.at node placed c.index.ensures in
+    let node = c.get-node.result in
+    let here = at_place c.args.self.now.nodes.items c.args.at node placed c.get-node.ensures.node in
     let low = c.requires.ready.0 in
     let outer = node_within c.args.self.now c.args.width low c.args.depth c.args.at node here c.if-at-eq-NONE.false ready in
     let few = few_bits c.args.width c.requires.width in
@@ -66,8 +66,8 @@ pub returns-then-told_by-clause-value : goal.returns-then-told_by-clause-value
 returns-then-told_by-clause-value g t c low fits ready =
     let placed : c.args.at < length c.args.self.now.nodes.items =
     stands_within c.args.self.now.nodes.items c.args.at ready.tree ready.holds.stands c.if-at-eq-NONE.false in
-    let node = c.index.result.now in
-    let here = at_place c.args.self.now.nodes.items c.args.at node placed c.index.ensures in
+    let node = c.get-node.result in
+    let here = at_place c.args.self.now.nodes.items c.args.at node placed c.get-node.ensures.node in
     let outer = node_within c.args.self.now c.args.width low c.args.depth c.args.at node here c.if-at-eq-NONE.false ready in
     let covers = holds c.covers.result _ c.covers.ensures c.if-not-covers.false in
     look_here c.args.mode c.args.iface c.args.width c.args.bits c.requires.width c.requires.bits c.args.self.now low c.args.depth
@@ -79,8 +79,8 @@ returns-then-told_by-clause-bound g t c =
     let ready = c.requires.ready.2 in
     let placed : c.args.at < length c.args.self.now.nodes.items =
     stands_within c.args.self.now.nodes.items c.args.at ready.tree ready.holds.stands c.if-at-eq-NONE.false in
-    let node = c.index.result.now in
-    let here = at_place c.args.self.now.nodes.items c.args.at node placed c.index.ensures in
+    let node = c.get-node.result in
+    let here = at_place c.args.self.now.nodes.items c.args.at node placed c.get-node.ensures.node in
     let low = c.requires.ready.0 in
     let outer = node_within c.args.self.now c.args.width low c.args.depth c.args.at node here c.if-at-eq-NONE.false ready in
     let few = few_bits c.args.width c.requires.width in
@@ -90,8 +90,8 @@ pub returns-then-node-width-clause-value : goal.returns-then-node-width-clause-v
 returns-then-node-width-clause-value g t c low fits ready =
     let placed : c.args.at < length c.args.self.now.nodes.items =
     stands_within c.args.self.now.nodes.items c.args.at ready.tree ready.holds.stands c.if-at-eq-NONE.false in
-    let node = c.index.result.now in
-    let here = at_place c.args.self.now.nodes.items c.args.at node placed c.index.ensures in
+    let node = c.get-node.result in
+    let here = at_place c.args.self.now.nodes.items c.args.at node placed c.get-node.ensures.node in
     let outer = node_within c.args.self.now c.args.width low c.args.depth c.args.at node here c.if-at-eq-NONE.false ready in
     let covers = holds c.covers.result _ c.covers.ensures c.if-not-covers.false in
     look_last c.args.mode c.args.iface c.args.width c.args.bits c.requires.width c.requires.bits c.args.self.now low c.args.depth
@@ -103,8 +103,8 @@ returns-then-node-width-clause-bound g t c =
     let ready = c.requires.ready.2 in
     let placed : c.args.at < length c.args.self.now.nodes.items =
     stands_within c.args.self.now.nodes.items c.args.at ready.tree ready.holds.stands c.if-at-eq-NONE.false in
-    let node = c.index.result.now in
-    let here = at_place c.args.self.now.nodes.items c.args.at node placed c.index.ensures in
+    let node = c.get-node.result in
+    let here = at_place c.args.self.now.nodes.items c.args.at node placed c.get-node.ensures.node in
     let low = c.requires.ready.0 in
     let outer = node_within c.args.self.now c.args.width low c.args.depth c.args.at node here c.if-at-eq-NONE.false ready in
     let few = few_bits c.args.width c.requires.width in
@@ -115,8 +115,8 @@ overflow_sub-width g t c =
     let ready = c.requires.ready.2 in
     let placed : c.args.at < length c.args.self.now.nodes.items =
     stands_within c.args.self.now.nodes.items c.args.at ready.tree ready.holds.stands c.if-at-eq-NONE.false in
-    let node = c.index.result.now in
-    let here = at_place c.args.self.now.nodes.items c.args.at node placed c.index.ensures in
+    let node = c.get-node.result in
+    let here = at_place c.args.self.now.nodes.items c.args.at node placed c.get-node.ensures.node in
     let low = c.requires.ready.0 in
     let outer = node_within c.args.self.now c.args.width low c.args.depth c.args.at node here c.if-at-eq-NONE.false ready in
     let few = few_bits c.args.width c.requires.width in
@@ -127,8 +127,8 @@ half-requires-clause-some g t c =
     let ready = c.requires.ready.2 in
     let placed : c.args.at < length c.args.self.now.nodes.items =
     stands_within c.args.self.now.nodes.items c.args.at ready.tree ready.holds.stands c.if-at-eq-NONE.false in
-    let node = c.index.result.now in
-    let here = at_place c.args.self.now.nodes.items c.args.at node placed c.index.ensures in
+    let node = c.get-node.result in
+    let here = at_place c.args.self.now.nodes.items c.args.at node placed c.get-node.ensures.node in
     let low = c.requires.ready.0 in
     let outer = node_within c.args.self.now c.args.width low c.args.depth c.args.at node here c.if-at-eq-NONE.false ready in
     let few = few_bits c.args.width c.requires.width in
@@ -139,8 +139,8 @@ half-requires-clause-few g t c =
     let ready = c.requires.ready.2 in
     let placed : c.args.at < length c.args.self.now.nodes.items =
     stands_within c.args.self.now.nodes.items c.args.at ready.tree ready.holds.stands c.if-at-eq-NONE.false in
-    let node = c.index.result.now in
-    let here = at_place c.args.self.now.nodes.items c.args.at node placed c.index.ensures in
+    let node = c.get-node.result in
+    let here = at_place c.args.self.now.nodes.items c.args.at node placed c.get-node.ensures.node in
     let low = c.requires.ready.0 in
     let outer = node_within c.args.self.now c.args.width low c.args.depth c.args.at node here c.if-at-eq-NONE.false ready in
     let few = few_bits c.args.width c.requires.width in
@@ -151,8 +151,8 @@ overflow_add-node g t c =
     let ready = c.requires.ready.2 in
     let placed : c.args.at < length c.args.self.now.nodes.items =
     stands_within c.args.self.now.nodes.items c.args.at ready.tree ready.holds.stands c.if-at-eq-NONE.false in
-    let node = c.index.result.now in
-    let here = at_place c.args.self.now.nodes.items c.args.at node placed c.index.ensures in
+    let node = c.get-node.result in
+    let here = at_place c.args.self.now.nodes.items c.args.at node placed c.get-node.ensures.node in
     let low = c.requires.ready.0 in
     let outer = node_within c.args.self.now c.args.width low c.args.depth c.args.at node here c.if-at-eq-NONE.false ready in
     let few = few_bits c.args.width c.requires.width in
@@ -163,8 +163,8 @@ overflow_add-node-2 g t c =
     let ready = c.requires.ready.2 in
     let placed : c.args.at < length c.args.self.now.nodes.items =
     stands_within c.args.self.now.nodes.items c.args.at ready.tree ready.holds.stands c.if-at-eq-NONE.false in
-    let node = c.index.result.now in
-    let here = at_place c.args.self.now.nodes.items c.args.at node placed c.index.ensures in
+    let node = c.get-node.result in
+    let here = at_place c.args.self.now.nodes.items c.args.at node placed c.get-node.ensures.node in
     let low = c.requires.ready.0 in
     let outer = node_within c.args.self.now c.args.width low c.args.depth c.args.at node here c.if-at-eq-NONE.false ready in
     let few = few_bits c.args.width c.requires.width in
@@ -175,8 +175,8 @@ look-requires g t c κs within =
     let ready = c.requires.ready.2 in
     let placed : c.args.at < length c.args.self.now.nodes.items =
     stands_within c.args.self.now.nodes.items c.args.at ready.tree ready.holds.stands c.if-at-eq-NONE.false in
-    let node = c.index.result.now in
-    let here = at_place c.args.self.now.nodes.items c.args.at node placed c.index.ensures in
+    let node = c.get-node.result in
+    let here = at_place c.args.self.now.nodes.items c.args.at node placed c.get-node.ensures.node in
     let low = c.requires.ready.0 in
     let outer = node_within c.args.self.now c.args.width low c.args.depth c.args.at node here c.if-at-eq-NONE.false ready in
     let few = few_bits c.args.width c.requires.width in
@@ -206,8 +206,8 @@ look-requires-2 g t c κs within =
     let ready = c.requires.ready.2 in
     let placed : c.args.at < length c.args.self.now.nodes.items =
     stands_within c.args.self.now.nodes.items c.args.at ready.tree ready.holds.stands c.if-at-eq-NONE.false in
-    let node = c.index.result.now in
-    let here = at_place c.args.self.now.nodes.items c.args.at node placed c.index.ensures in
+    let node = c.get-node.result in
+    let here = at_place c.args.self.now.nodes.items c.args.at node placed c.get-node.ensures.node in
     let low = c.requires.ready.0 in
     let outer = node_within c.args.self.now c.args.width low c.args.depth c.args.at node here c.if-at-eq-NONE.false ready in
     let few = few_bits c.args.width c.requires.width in
@@ -236,8 +236,8 @@ pub returns-then-bits-node-clause-value : goal.returns-then-bits-node-clause-val
 returns-then-bits-node-clause-value g t c low fits ready =
     let placed : c.args.at < length c.args.self.now.nodes.items =
     stands_within c.args.self.now.nodes.items c.args.at ready.tree ready.holds.stands c.if-at-eq-NONE.false in
-    let node = c.index.result.now in
-    let here = at_place c.args.self.now.nodes.items c.args.at node placed c.index.ensures in
+    let node = c.get-node.result in
+    let here = at_place c.args.self.now.nodes.items c.args.at node placed c.get-node.ensures.node in
     let outer = node_within c.args.self.now c.args.width low c.args.depth c.args.at node here c.if-at-eq-NONE.false ready in
     let covers = holds c.covers.result _ c.covers.ensures c.if-not-covers.false in
     let more : node.entry.len < c.args.width = omega (arith, outer.within, c.if-node-width.false) in
@@ -251,8 +251,8 @@ returns-then-bits-node-clause-bound g t c =
     let ready = c.requires.ready.2 in
     let placed : c.args.at < length c.args.self.now.nodes.items =
     stands_within c.args.self.now.nodes.items c.args.at ready.tree ready.holds.stands c.if-at-eq-NONE.false in
-    let node = c.index.result.now in
-    let here = at_place c.args.self.now.nodes.items c.args.at node placed c.index.ensures in
+    let node = c.get-node.result in
+    let here = at_place c.args.self.now.nodes.items c.args.at node placed c.get-node.ensures.node in
     let low = c.requires.ready.0 in
     let outer = node_within c.args.self.now c.args.width low c.args.depth c.args.at node here c.if-at-eq-NONE.false ready in
     let few = few_bits c.args.width c.requires.width in
@@ -265,8 +265,8 @@ pub returns-clause-value : goal.returns-clause-value
 returns-clause-value g t c low fits ready =
     let placed : c.args.at < length c.args.self.now.nodes.items =
     stands_within c.args.self.now.nodes.items c.args.at ready.tree ready.holds.stands c.if-at-eq-NONE.false in
-    let node = c.index.result.now in
-    let here = at_place c.args.self.now.nodes.items c.args.at node placed c.index.ensures in
+    let node = c.get-node.result in
+    let here = at_place c.args.self.now.nodes.items c.args.at node placed c.get-node.ensures.node in
     let outer = node_within c.args.self.now c.args.width low c.args.depth c.args.at node here c.if-at-eq-NONE.false ready in
     let covers = holds c.covers.result _ c.covers.ensures c.if-not-covers.false in
     let more : node.entry.len < c.args.width = omega (arith, outer.within, c.if-node-width.false) in
@@ -280,8 +280,8 @@ returns-clause-bound g t c =
     let ready = c.requires.ready.2 in
     let placed : c.args.at < length c.args.self.now.nodes.items =
     stands_within c.args.self.now.nodes.items c.args.at ready.tree ready.holds.stands c.if-at-eq-NONE.false in
-    let node = c.index.result.now in
-    let here = at_place c.args.self.now.nodes.items c.args.at node placed c.index.ensures in
+    let node = c.get-node.result in
+    let here = at_place c.args.self.now.nodes.items c.args.at node placed c.get-node.ensures.node in
     let low = c.requires.ready.0 in
     let outer = node_within c.args.self.now c.args.width low c.args.depth c.args.at node here c.if-at-eq-NONE.false ready in
     let few = few_bits c.args.width c.requires.width in

@@ -18,8 +18,8 @@ returns-then-at-eq-NONE-clause-results t c ready =
     hung_at c.args.self.now c.hang.new.self c.args.width c.args.low c.args.depth c.args.at c.hang.result c.args.entry.now none
     c.hang.ensures.results ready
 
-pub index-requires : goal.index-requires
-index-requires t c =
+pub get-node-requires : goal.get-node-requires
+get-node-requires t c =
     let ready = c.requires.ready in
     let placed : c.args.at < length c.args.self.now.nodes.items =
     stands_within c.args.self.now.nodes.items c.args.at ready.tree ready.holds.stands c.if-at-eq-NONE.false in
@@ -35,10 +35,10 @@ put_over-requires-clause-at t c =
 pub put_over-requires-clause-longer : goal.put_over-requires-clause-longer
 put_over-requires-clause-longer t c other =
     let ready = c.requires.ready in
-    let node = c.index.result.now in
+    let node = c.get-node.result in
     let placed : c.args.at < length c.args.self.now.nodes.items =
     stands_within c.args.self.now.nodes.items c.args.at ready.tree ready.holds.stands c.if-at-eq-NONE.false in
-    let here = at_place c.args.self.now.nodes.items c.args.at node placed c.index.ensures in
+    let here = at_place c.args.self.now.nodes.items c.args.at node placed c.get-node.ensures.node in
     let outer = node_within c.args.self.now c.args.width c.args.low c.args.depth c.args.at node here c.if-at-eq-NONE.false ready in
     let is = ap (λ (n : Node). n.entry.len) (here.here other) in
     omega (arith, is, c.if-node-entry.true)
@@ -53,18 +53,18 @@ put_beside-requires-clause-at t c =
 pub put_beside-requires-clause-beside : goal.put_beside-requires-clause-beside
 put_beside-requires-clause-beside t c other =
     let ready = c.requires.ready in
-    let node = c.index.result.now in
+    let node = c.get-node.result in
     let placed : c.args.at < length c.args.self.now.nodes.items =
     stands_within c.args.self.now.nodes.items c.args.at ready.tree ready.holds.stands c.if-at-eq-NONE.false in
-    let here = at_place c.args.self.now.nodes.items c.args.at node placed c.index.ensures in
+    let here = at_place c.args.self.now.nodes.items c.args.at node placed c.get-node.ensures.node in
     let outer = node_within c.args.self.now c.args.width c.args.low c.args.depth c.args.at node here c.if-at-eq-NONE.false ready in
     subst (λ (n : Node). AreApart c.args.width n.entry c.args.entry.now) (sym (here.here other))
     (apart_turned c.args.width c.args.entry.now node.entry
     (apart_longer c.args.width c.args.entry.now node.entry c.requires.within.within c.requires.within.zeros outer.zeros
     (omega (arith, c.if-node-entry.false)) (fails c.covers.result _ c.covers.ensures c.if-not-covers.true)))
 
-pub set_entry-requires : goal.set_entry-requires
-set_entry-requires t c =
+pub set_entry-requires-clause-within : goal.set_entry-requires-clause-within
+set_entry-requires-clause-within t c =
     let ready = c.requires.ready in
     let placed : c.args.at < length c.args.self.now.nodes.items =
     stands_within c.args.self.now.nodes.items c.args.at ready.tree ready.holds.stands c.if-at-eq-NONE.false in
@@ -73,10 +73,10 @@ set_entry-requires t c =
 pub tidy-requires-clause-ready : goal.tidy-requires-clause-ready
 tidy-requires-clause-ready t c =
     let ready = c.requires.ready in
-    let node = c.index.result.now in
+    let node = c.get-node.result in
     let placed : c.args.at < length c.args.self.now.nodes.items =
     stands_within c.args.self.now.nodes.items c.args.at ready.tree ready.holds.stands c.if-at-eq-NONE.false in
-    let here = at_place c.args.self.now.nodes.items c.args.at node placed c.index.ensures in
+    let here = at_place c.args.self.now.nodes.items c.args.at node placed c.get-node.ensures.node in
     let outer = node_within c.args.self.now c.args.width c.args.low c.args.depth c.args.at node here c.if-at-eq-NONE.false ready in
     let covers = holds c.covers.result _ c.covers.ensures c.if-not-covers.false in
     let done = rewritten c.args.self.now c.args.width c.args.low c.args.depth c.args.at node here c.if-at-eq-NONE.false ready c.set_entry.new.self c.args.entry.now c.requires.within
@@ -92,10 +92,10 @@ tidy-requires-clause-ready t c =
 pub tidy-requires-clause-at : goal.tidy-requires-clause-at
 tidy-requires-clause-at t c =
     let ready = c.requires.ready in
-    let node = c.index.result.now in
+    let node = c.get-node.result in
     let placed : c.args.at < length c.args.self.now.nodes.items =
     stands_within c.args.self.now.nodes.items c.args.at ready.tree ready.holds.stands c.if-at-eq-NONE.false in
-    let here = at_place c.args.self.now.nodes.items c.args.at node placed c.index.ensures in
+    let here = at_place c.args.self.now.nodes.items c.args.at node placed c.get-node.ensures.node in
     let outer = node_within c.args.self.now c.args.width c.args.low c.args.depth c.args.at node here c.if-at-eq-NONE.false ready in
     let covers = holds c.covers.result _ c.covers.ensures c.if-not-covers.false in
     let done = rewritten c.args.self.now c.args.width c.args.low c.args.depth c.args.at node here c.if-at-eq-NONE.false ready c.set_entry.new.self c.args.entry.now c.requires.within
@@ -104,10 +104,10 @@ tidy-requires-clause-at t c =
 
 pub returns-then-node-entry-2-clause-results : goal.returns-then-node-entry-2-clause-results
 returns-then-node-entry-2-clause-results t c ready =
-    let node = c.index.result.now in
+    let node = c.get-node.result in
     let placed : c.args.at < length c.args.self.now.nodes.items =
     stands_within c.args.self.now.nodes.items c.args.at ready.tree ready.holds.stands c.if-at-eq-NONE.false in
-    let here = at_place c.args.self.now.nodes.items c.args.at node placed c.index.ensures in
+    let here = at_place c.args.self.now.nodes.items c.args.at node placed c.get-node.ensures.node in
     let outer = node_within c.args.self.now c.args.width c.args.low c.args.depth c.args.at node here c.if-at-eq-NONE.false ready in
     let covers = holds c.covers.result _ c.covers.ensures c.if-not-covers.false in
     let done = rewritten c.args.self.now c.args.width c.args.low c.args.depth c.args.at node here c.if-at-eq-NONE.false ready c.set_entry.new.self c.args.entry.now c.requires.within
@@ -119,10 +119,10 @@ returns-then-node-entry-2-clause-results t c ready =
 pub overflow_add-middle : goal.overflow_add-middle
 overflow_add-middle t c =
     let ready = c.requires.ready in
-    let node = c.index.result.now in
+    let node = c.get-node.result in
     let placed : c.args.at < length c.args.self.now.nodes.items =
     stands_within c.args.self.now.nodes.items c.args.at ready.tree ready.holds.stands c.if-at-eq-NONE.false in
-    let here = at_place c.args.self.now.nodes.items c.args.at node placed c.index.ensures in
+    let here = at_place c.args.self.now.nodes.items c.args.at node placed c.get-node.ensures.node in
     let outer = node_within c.args.self.now c.args.width c.args.low c.args.depth c.args.at node here c.if-at-eq-NONE.false ready in
     let covers = holds c.covers.result _ c.covers.ensures c.if-not-covers.false in
     let longer : node.entry.len < c.args.entry.now.len = omega (arith, c.if-node-entry.false, c.if-node-entry-2.false) in
@@ -135,10 +135,10 @@ overflow_add-middle t c =
 pub write-child-requires : goal.write-child-requires
 write-child-requires t c =
     let ready = c.requires.ready in
-    let node = c.index.result.now in
+    let node = c.get-node.result in
     let placed : c.args.at < length c.args.self.now.nodes.items =
     stands_within c.args.self.now.nodes.items c.args.at ready.tree ready.holds.stands c.if-at-eq-NONE.false in
-    let here = at_place c.args.self.now.nodes.items c.args.at node placed c.index.ensures in
+    let here = at_place c.args.self.now.nodes.items c.args.at node placed c.get-node.ensures.node in
     let outer = node_within c.args.self.now c.args.width c.args.low c.args.depth c.args.at node here c.if-at-eq-NONE.false ready in
     let covers = holds c.covers.result _ c.covers.ensures c.if-not-covers.false in
     let longer : node.entry.len < c.args.entry.now.len = omega (arith, c.if-node-entry.false, c.if-node-entry-2.false) in
@@ -150,7 +150,7 @@ write-child-requires t c =
         c.requires.width,
         (
           left_ready c.args.self.now c.args.width c.args.low c.args.depth c.args.at node here c.if-at-eq-NONE.false ready,
-          (on_left c.args.width c.args.low c.args.depth node.entry c.args.entry.now outer c.requires.within longer covers.0 covers.1 less, (left_whole c.args.width c.args.low c.args.depth node.entry c.args.entry.now outer c.requires.within longer covers.0 covers.1, c.requires.room)),
+          (on_left c.args.width c.args.low c.args.depth node.entry c.args.entry.now outer c.requires.within longer covers.0 covers.1 less, (left_whole c.args.width c.args.low c.args.depth node.entry c.args.entry.now outer c.requires.within longer covers.0 covers.1, (c.requires.room, c.requires.fits))),
         ),
       ),
     )
@@ -158,10 +158,10 @@ write-child-requires t c =
 pub set_left-requires : goal.set_left-requires
 set_left-requires t c =
     let ready = c.requires.ready in
-    let node = c.index.result.now in
+    let node = c.get-node.result in
     let placed : c.args.at < length c.args.self.now.nodes.items =
     stands_within c.args.self.now.nodes.items c.args.at ready.tree ready.holds.stands c.if-at-eq-NONE.false in
-    let here = at_place c.args.self.now.nodes.items c.args.at node placed c.index.ensures in
+    let here = at_place c.args.self.now.nodes.items c.args.at node placed c.get-node.ensures.node in
     let outer = node_within c.args.self.now c.args.width c.args.low c.args.depth c.args.at node here c.if-at-eq-NONE.false ready in
     let own = left_ready c.args.self.now c.args.width c.args.low c.args.depth c.args.at node here c.if-at-eq-NONE.false ready in
     let grown = c.write-child.ensures.results own in
@@ -170,10 +170,10 @@ set_left-requires t c =
 pub tidy-requires-then-entry-middle-clause-ready : goal.tidy-requires-then-entry-middle-clause-ready
 tidy-requires-then-entry-middle-clause-ready t c =
     let ready = c.requires.ready in
-    let node = c.index.result.now in
+    let node = c.get-node.result in
     let placed : c.args.at < length c.args.self.now.nodes.items =
     stands_within c.args.self.now.nodes.items c.args.at ready.tree ready.holds.stands c.if-at-eq-NONE.false in
-    let here = at_place c.args.self.now.nodes.items c.args.at node placed c.index.ensures in
+    let here = at_place c.args.self.now.nodes.items c.args.at node placed c.get-node.ensures.node in
     let outer = node_within c.args.self.now c.args.width c.args.low c.args.depth c.args.at node here c.if-at-eq-NONE.false ready in
     let covers = holds c.covers.result _ c.covers.ensures c.if-not-covers.false in
     let longer : node.entry.len < c.args.entry.now.len = omega (arith, c.if-node-entry.false, c.if-node-entry-2.false) in
@@ -194,10 +194,10 @@ tidy-requires-then-entry-middle-clause-ready t c =
 pub tidy-requires-then-entry-middle-clause-at : goal.tidy-requires-then-entry-middle-clause-at
 tidy-requires-then-entry-middle-clause-at t c =
     let ready = c.requires.ready in
-    let node = c.index.result.now in
+    let node = c.get-node.result in
     let placed : c.args.at < length c.args.self.now.nodes.items =
     stands_within c.args.self.now.nodes.items c.args.at ready.tree ready.holds.stands c.if-at-eq-NONE.false in
-    let here = at_place c.args.self.now.nodes.items c.args.at node placed c.index.ensures in
+    let here = at_place c.args.self.now.nodes.items c.args.at node placed c.get-node.ensures.node in
     let outer = node_within c.args.self.now c.args.width c.args.low c.args.depth c.args.at node here c.if-at-eq-NONE.false ready in
     let covers = holds c.covers.result _ c.covers.ensures c.if-not-covers.false in
     let longer : node.entry.len < c.args.entry.now.len = omega (arith, c.if-node-entry.false, c.if-node-entry-2.false) in
@@ -211,10 +211,10 @@ tidy-requires-then-entry-middle-clause-at t c =
 
 pub returns-then-entry-middle-clause-results : goal.returns-then-entry-middle-clause-results
 returns-then-entry-middle-clause-results t c ready =
-    let node = c.index.result.now in
+    let node = c.get-node.result in
     let placed : c.args.at < length c.args.self.now.nodes.items =
     stands_within c.args.self.now.nodes.items c.args.at ready.tree ready.holds.stands c.if-at-eq-NONE.false in
-    let here = at_place c.args.self.now.nodes.items c.args.at node placed c.index.ensures in
+    let here = at_place c.args.self.now.nodes.items c.args.at node placed c.get-node.ensures.node in
     let outer = node_within c.args.self.now c.args.width c.args.low c.args.depth c.args.at node here c.if-at-eq-NONE.false ready in
     let covers = holds c.covers.result _ c.covers.ensures c.if-not-covers.false in
     let longer : node.entry.len < c.args.entry.now.len = omega (arith, c.if-node-entry.false, c.if-node-entry-2.false) in
@@ -231,10 +231,10 @@ returns-then-entry-middle-clause-results t c ready =
 pub write-child-requires-2 : goal.write-child-requires-2
 write-child-requires-2 t c =
     let ready = c.requires.ready in
-    let node = c.index.result.now in
+    let node = c.get-node.result in
     let placed : c.args.at < length c.args.self.now.nodes.items =
     stands_within c.args.self.now.nodes.items c.args.at ready.tree ready.holds.stands c.if-at-eq-NONE.false in
-    let here = at_place c.args.self.now.nodes.items c.args.at node placed c.index.ensures in
+    let here = at_place c.args.self.now.nodes.items c.args.at node placed c.get-node.ensures.node in
     let outer = node_within c.args.self.now c.args.width c.args.low c.args.depth c.args.at node here c.if-at-eq-NONE.false ready in
     let covers = holds c.covers.result _ c.covers.ensures c.if-not-covers.false in
     let longer : node.entry.len < c.args.entry.now.len = omega (arith, c.if-node-entry.false, c.if-node-entry-2.false) in
@@ -251,7 +251,7 @@ write-child-requires-2 t c =
               (right_ready c.args.self.now c.args.width c.args.low c.args.depth c.args.at node here c.if-at-eq-NONE.false ready),
           (
             subst (λ m. IsWithin c.args.width m (node.entry.len + 1) c.args.entry.now) middle (on_right c.args.width c.args.low c.args.depth node.entry c.args.entry.now outer c.requires.within longer covers.0 covers.1 past),
-            (subst (λ m. cleared c.args.width (node.entry.len + 1) m ≡ m) middle (right_whole c.args.width c.args.low c.args.depth node.entry c.args.entry.now outer c.requires.within longer covers.0 covers.1), c.requires.room),
+            (subst (λ m. cleared c.args.width (node.entry.len + 1) m ≡ m) middle (right_whole c.args.width c.args.low c.args.depth node.entry c.args.entry.now outer c.requires.within longer covers.0 covers.1), (c.requires.room, c.requires.fits)),
           ),
         ),
       ),
@@ -260,10 +260,10 @@ write-child-requires-2 t c =
 pub set_right-requires : goal.set_right-requires
 set_right-requires t c =
     let ready = c.requires.ready in
-    let node = c.index.result.now in
+    let node = c.get-node.result in
     let placed : c.args.at < length c.args.self.now.nodes.items =
     stands_within c.args.self.now.nodes.items c.args.at ready.tree ready.holds.stands c.if-at-eq-NONE.false in
-    let here = at_place c.args.self.now.nodes.items c.args.at node placed c.index.ensures in
+    let here = at_place c.args.self.now.nodes.items c.args.at node placed c.get-node.ensures.node in
     let outer = node_within c.args.self.now c.args.width c.args.low c.args.depth c.args.at node here c.if-at-eq-NONE.false ready in
     let covers = holds c.covers.result _ c.covers.ensures c.if-not-covers.false in
     let longer : node.entry.len < c.args.entry.now.len = omega (arith, c.if-node-entry.false, c.if-node-entry-2.false) in
@@ -286,10 +286,10 @@ set_right-requires t c =
 pub tidy-requires-2-clause-ready : goal.tidy-requires-2-clause-ready
 tidy-requires-2-clause-ready t c =
     let ready = c.requires.ready in
-    let node = c.index.result.now in
+    let node = c.get-node.result in
     let placed : c.args.at < length c.args.self.now.nodes.items =
     stands_within c.args.self.now.nodes.items c.args.at ready.tree ready.holds.stands c.if-at-eq-NONE.false in
-    let here = at_place c.args.self.now.nodes.items c.args.at node placed c.index.ensures in
+    let here = at_place c.args.self.now.nodes.items c.args.at node placed c.get-node.ensures.node in
     let outer = node_within c.args.self.now c.args.width c.args.low c.args.depth c.args.at node here c.if-at-eq-NONE.false ready in
     let covers = holds c.covers.result _ c.covers.ensures c.if-not-covers.false in
     let longer : node.entry.len < c.args.entry.now.len = omega (arith, c.if-node-entry.false, c.if-node-entry-2.false) in
@@ -320,10 +320,10 @@ tidy-requires-2-clause-ready t c =
 pub tidy-requires-2-clause-at : goal.tidy-requires-2-clause-at
 tidy-requires-2-clause-at t c =
     let ready = c.requires.ready in
-    let node = c.index.result.now in
+    let node = c.get-node.result in
     let placed : c.args.at < length c.args.self.now.nodes.items =
     stands_within c.args.self.now.nodes.items c.args.at ready.tree ready.holds.stands c.if-at-eq-NONE.false in
-    let here = at_place c.args.self.now.nodes.items c.args.at node placed c.index.ensures in
+    let here = at_place c.args.self.now.nodes.items c.args.at node placed c.get-node.ensures.node in
     let outer = node_within c.args.self.now c.args.width c.args.low c.args.depth c.args.at node here c.if-at-eq-NONE.false ready in
     let covers = holds c.covers.result _ c.covers.ensures c.if-not-covers.false in
     let longer : node.entry.len < c.args.entry.now.len = omega (arith, c.if-node-entry.false, c.if-node-entry-2.false) in
@@ -347,10 +347,10 @@ tidy-requires-2-clause-at t c =
 
 pub returns-clause-results : goal.returns-clause-results
 returns-clause-results t c ready =
-    let node = c.index.result.now in
+    let node = c.get-node.result in
     let placed : c.args.at < length c.args.self.now.nodes.items =
     stands_within c.args.self.now.nodes.items c.args.at ready.tree ready.holds.stands c.if-at-eq-NONE.false in
-    let here = at_place c.args.self.now.nodes.items c.args.at node placed c.index.ensures in
+    let here = at_place c.args.self.now.nodes.items c.args.at node placed c.get-node.ensures.node in
     let outer = node_within c.args.self.now c.args.width c.args.low c.args.depth c.args.at node here c.if-at-eq-NONE.false ready in
     let covers = holds c.covers.result _ c.covers.ensures c.if-not-covers.false in
     let longer : node.entry.len < c.args.entry.now.len = omega (arith, c.if-node-entry.false, c.if-node-entry-2.false) in

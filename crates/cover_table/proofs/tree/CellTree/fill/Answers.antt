@@ -9,7 +9,7 @@ loop-self-preserved c =
     let e = c.add_free.ensures in
     let i = c.loop-self.invariant in
     let more = added_length old.nodes.items c.add_free.new.self.nodes.items _ e.nodes in
-    let room : length old.nodes.items < no_place = omega (arith, i.numbers, c.loop-self-test.true) in
+    let room : length old.nodes.items < no_place = omega (arith, e.numbers, more) in
     record {
       whole =
           added_whole old c.add_free.new.self c.args.width c.requires.width (link_of old.free) refl e.nodes e.free e.freed
@@ -18,7 +18,6 @@ loop-self-preserved c =
           added_tree old c.add_free.new.self c.args.width c.requires.width (link_of old.free) refl e.nodes e.free e.freed
           e.root room i.whole
           ∙ i.tree;
-      kept = omega (arith, i.kept, e.freed);
-      room = omega (arith, i.room, e.freed, e.capacity, more, c.loop-self-test.true);
-      numbers = omega (arith, i.numbers, e.freed, more, c.loop-self-test.true);
+      highest = e.highest ∙ i.highest;
+      spare = omega (arith, i.spare, e.freed, e.room);
     }

@@ -10,8 +10,8 @@ use Rattle.cover_table.proofs.tree.CellTree.put_over.Goals as goal
 
 pub put_beside-requires-clause-beside : goal.put_beside-requires-clause-beside
 put_beside-requires-clause-beside c other =
-    let node = c.index-node.result.now in
-    let here = at_place c.args.self.now.nodes.items c.args.at node c.requires.at c.index-node.ensures in
+    let node = c.get-node.result in
+    let here = at_place c.args.self.now.nodes.items c.args.at node c.requires.at c.get-node.ensures.node in
     let ready = c.requires.ready in
     let within = node_within c.args.self.now c.args.width c.args.low c.args.depth c.args.at node here
     (omega (arith, ready.holds.numbered, c.requires.at)) ready in
@@ -23,8 +23,8 @@ put_beside-requires-clause-beside c other =
 
 pub returns-then-is_empty-clause-results : goal.returns-then-is_empty-clause-results
 returns-then-is_empty-clause-results c ready =
-    let node = c.index-node.result.now in
-    let here = at_place c.args.self.now.nodes.items c.args.at node c.requires.at c.index-node.ensures in
+    let node = c.get-node.result in
+    let here = at_place c.args.self.now.nodes.items c.args.at node c.requires.at c.get-node.ensures.node in
     let longer = c.requires.longer node in
     let is = ap (λ (n : Node). n.entry.len) (here.here node) in
     let covers = holds c.covers.result _ c.covers.ensures c.if-not-covers.false in
@@ -34,8 +34,8 @@ returns-then-is_empty-clause-results c ready =
 
 pub half-requires-clause-some : goal.half-requires-clause-some
 half-requires-clause-some c =
-    let node = c.index-node.result.now in
-    let here = at_place c.args.self.now.nodes.items c.args.at node c.requires.at c.index-node.ensures in
+    let node = c.get-node.result in
+    let here = at_place c.args.self.now.nodes.items c.args.at node c.requires.at c.get-node.ensures.node in
     let ready = c.requires.ready in
     let within = node_within c.args.self.now c.args.width c.args.low c.args.depth c.args.at node here
     (omega (arith, ready.holds.numbered, c.requires.at)) ready in
@@ -45,8 +45,8 @@ half-requires-clause-some c =
 
 pub overflow_add-middle : goal.overflow_add-middle
 overflow_add-middle c =
-    let node = c.index-node.result.now in
-    let here = at_place c.args.self.now.nodes.items c.args.at node c.requires.at c.index-node.ensures in
+    let node = c.get-node.result in
+    let here = at_place c.args.self.now.nodes.items c.args.at node c.requires.at c.get-node.ensures.node in
     let ready = c.requires.ready in
     let within = node_within c.args.self.now c.args.width c.args.low c.args.depth c.args.at node here
     (omega (arith, ready.holds.numbered, c.requires.at)) ready in
@@ -69,8 +69,8 @@ take-requires-2-clause-within c =
 
 pub returns-then-node-middle-clause-results : goal.returns-then-node-middle-clause-results
 returns-then-node-middle-clause-results c ready =
-    let node = c.index-node.result.now in
-    let here = at_place c.args.self.now.nodes.items c.args.at node c.requires.at c.index-node.ensures in
+    let node = c.get-node.result in
+    let here = at_place c.args.self.now.nodes.items c.args.at node c.requires.at c.get-node.ensures.node in
     let longer = c.requires.longer node in
     let is = ap (λ (n : Node). n.entry.len) (here.here node) in
     let covers = holds c.covers.result _ c.covers.ensures c.if-not-covers.false in
@@ -83,8 +83,8 @@ returns-then-node-middle-clause-results c ready =
 
 pub returns-clause-results : goal.returns-clause-results
 returns-clause-results c ready =
-    let node = c.index-node.result.now in
-    let here = at_place c.args.self.now.nodes.items c.args.at node c.requires.at c.index-node.ensures in
+    let node = c.get-node.result in
+    let here = at_place c.args.self.now.nodes.items c.args.at node c.requires.at c.get-node.ensures.node in
     let longer = c.requires.longer node in
     let is = ap (λ (n : Node). n.entry.len) (here.here node) in
     let covers = holds c.covers.result _ c.covers.ensures c.if-not-covers.false in

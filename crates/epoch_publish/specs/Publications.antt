@@ -4,6 +4,11 @@ use Rattle.logbook.specs.Pages.{Book}
 use Rattle.urpf_base.specs.declared.kinds.Kind.{Kind}
 use Rattle.cover_table.specs.declared.batch.Batch.{Batch}
 
+-- a history in which nothing was handed over yet: whose publications these will be, and the interfaces before the first
+pub record Beginning : Type 0 where
+  pub identity : Book
+  pub opening : List (ℕ × Kind)
+
 -- a publisher: whose publications these are, the interfaces before the first one, all that it published, and whether
 -- a publication was refused
 pub record Publishing : Type 0 where

@@ -7,6 +7,7 @@ ghost use Rattle.epoch_publish.specs.History.{AreNumbered, head_of};
 
 use cover_table::Batch;
 use logbook::{Gain, Offer, Plain, Play, Rule, Seen, Start, Word};
+use router_config::Kinds;
 use std::marker::{Brand, Model, PhantomData};
 
 /// What holds of the word and of the list at all times.
@@ -76,43 +77,47 @@ impl Naming for Brand {
     ghost opening = { [] };
 }
 
-/// A history in which nothing was handed over yet, and which has no name. Contracts see who it is.
+/// A history in which nothing was handed over yet, and which has no name, with the interfaces before
+/// its first batch. Contracts see who it is and these interfaces.
 #[derive(Drop)]
 pub struct Opened {
     head: Word<Batch, u64, Law>,
     seen: Seen<Batch, u64, Law>,
+    kinds: Kinds,
 }
 
 impl Model for Opened {
     ghost use Rattle.std.specs.Prelude.{◌≡◌, []};
-    ghost use Rattle.logbook.specs.Pages.{Book, book_coded};
     ghost use Rattle.epoch_publish.specs.History.{head_of};
+    ghost use Rattle.epoch_publish.specs.Publications.{Beginning};
 
-    ghost Value = { Book };
+    ghost Value = { Beginning };
 
-    ghost coded = { book_coded };
-
-    ghost view = { λ o. o.seen.book };
+    ghost view = { λ o. record { identity = o.seen.book; opening = o.kinds } };
 
     ghost invariant = { λ o. (o.seen.log ≡ []) × (o.head ≡ head_of o.seen.book) };
 }
 
 impl Opened {
-    /// A new history. It takes no memory.
-    pub fn new() -> Opened {
+    /// A new history that begins with these interfaces. It takes no memory.
+    pub fn new(kinds: Kinds) -> Opened
+        ensures opening { result.opening ≡ kinds }
+    {
         let (seen, mut first, _second) = Seen::open(Start::alone(), 0, 0);
         Opened {
             head: Word::tracked(0, &mut first),
             seen,
+            kinds,
         }
     }
 
-    /// The word of the history, and the beginning of it that has no batch.
-    pub(crate) fn named<J: Naming>(self) -> (Book<J>, Front<J>)
-        requires { self ≡ J.book }
-        ensures { result.1 ≡ [] }
+    /// The word of the history, the beginning of it that has no batch, and the interfaces.
+    pub(crate) fn named<J: Naming>(self) -> (Book<J>, Front<J>, Kinds)
+        requires { self.identity ≡ J.book }
+        ensures empty { result.1 ≡ [] }
+        ensures kinds { result.2 ≡ self.opening }
     {
-        let Opened { head, seen } = self;
+        let Opened { head, seen, kinds } = self;
         (
             Book {
                 head,
@@ -123,6 +128,7 @@ impl Opened {
                 seen,
                 of: PhantomData,
             },
+            kinds,
         )
     }
 }

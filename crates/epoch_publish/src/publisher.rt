@@ -15,7 +15,6 @@ use crossbeam_utils::rule::Unruled;
 use left_right::Absorb;
 use left_right::reader::Factory;
 use left_right::writer::Writer;
-use router_config::Kinds;
 use std::alloc::Global;
 use std::marker::Model;
 use std::sync::Wait;
@@ -57,19 +56,18 @@ where
     pub fn start(
         alloc: Global,
         opened: Opened,
-        kinds: Kinds,
         passes: u32,
     ) -> Result<(Publisher<J>, Passes<J>), OutOfMemory>
-        requires named { (opened ≡ J.book) × (kinds ≡ J.opening) }
+        requires named { (opened.identity ≡ J.book) × (opened.opening ≡ J.opening) }
         requires passes { 0 < passes }
-        ensures publisher { IfOk result (λ t. t.0 ≡ record { identity = opened; opening = kinds; list = []; refused = false }) }
-        ensures passes { IfOk result (λ t. AllByRecursion (λ p. p ≡ fresh opened kinds) t.1) }
+        ensures publisher { IfOk result (λ t. t.0 ≡ record { identity = opened.identity; opening = opened.opening; list = []; refused = false }) }
+        ensures passes { IfOk result (λ t. AllByRecursion (λ p. p ≡ fresh opened.identity opened.opening) t.1) }
         ensures most { IfOk result (λ t. length t.1 ≤ passes) }
     {
         let Ok(mut items) = Vec::with_capacity(alloc, passes as usize) else {
             return Err(OutOfMemory);
         };
-        let (book, front) = opened.named::<J>();
+        let (book, front, kinds) = opened.named::<J>();
         let copy = kinds.copied()?;
         let first = Published::new(alloc, kinds, front.again());
         let second = Published::new(alloc, copy, front.again());

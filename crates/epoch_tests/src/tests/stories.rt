@@ -23,13 +23,15 @@ enum Story {
 #[test]
 fn thirty_two_passes_are_handed_out_and_each_checks(rt: HostRuntime) {
     let kinds = one(&rt);
-    named::<Brand, _>(&rt, Opened::new(), kinds, 32, Story::HandedOut);
+    let copy = kinds.copied().expect(&rt, "memory");
+    named::<Brand, _>(&rt, Opened::new(kinds), copy, 32, Story::HandedOut);
 }
 
 #[test]
 fn what_is_published_is_seen_and_told(rt: HostRuntime) {
     let kinds = one(&rt);
-    named::<Brand, _>(&rt, Opened::new(), kinds, 2, Story::Published);
+    let copy = kinds.copied().expect(&rt, "memory");
+    named::<Brand, _>(&rt, Opened::new(kinds), copy, 2, Story::Published);
 }
 
 /// The same under the name of the history.
@@ -40,7 +42,7 @@ fn named<J: Naming, R: Wait + Abort + AllocGlobal>(
     passes: u32,
     story: Story,
 )
-    requires { (opened ≡ J.book) × (kinds ≡ J.opening) × (passes ≢ 0) }
+    requires { (opened.identity ≡ J.book) × (opened.opening ≡ J.opening) × (kinds ≡ J.opening) × (passes ≢ 0) }
 {
     started::<J, R>(rt, opened, kinds, passes, story)
 }
@@ -55,16 +57,15 @@ fn started<J: Naming, R: Wait + Abort + AllocGlobal>(
 )
 where
     Published<J>: Absorb<Event<J>, State = [Batch; 0]>,
-    requires { (opened ≡ J.book) × (kinds ≡ J.opening) × (passes ≢ 0) }
+    requires { (opened.identity ≡ J.book) × (opened.opening ≡ J.opening) × (kinds ≡ J.opening) × (passes ≢ 0) }
 {
-    let copy = kinds.copied().expect(rt, "memory");
-    let Ok((mut publisher, passes)) = Publisher::start(rt.alloc(), opened, kinds, passes) else {
+    let Ok((mut publisher, passes)) = Publisher::start(rt.alloc(), opened, passes) else {
         assert!(rt; false, "a publisher is started");
         return;
     };
     match story {
         Story::HandedOut => handed_out(rt, passes),
-        Story::Published => seen_and_told(rt, &mut publisher, passes, &copy),
+        Story::Published => seen_and_told(rt, &mut publisher, passes, &kinds),
     }
     publisher.end(rt);
 }

@@ -21,7 +21,8 @@ const CHECKS: u64 = 40_000;
 #[test]
 fn a_thread_follows_what_another_one_publishes(rt: HostRuntime) {
     let kinds = one(&rt);
-    named::<Brand, _>(&rt, Opened::new(), kinds);
+    let copy = kinds.copied().expect(&rt, "memory");
+    named::<Brand, _>(&rt, Opened::new(kinds), copy);
 }
 
 /// The same under the name of the history.
@@ -30,7 +31,7 @@ fn named<J: Naming + Send + Sync, R: Threads + Wait + Abort + AllocGlobal + Sync
     opened: Opened,
     kinds: Kinds,
 )
-    requires { (opened ≡ J.book) × (kinds ≡ J.opening) }
+    requires { (opened.identity ≡ J.book) × (opened.opening ≡ J.opening) × (kinds ≡ J.opening) }
 {
     started::<J, R>(rt, opened, kinds)
 }
@@ -42,15 +43,14 @@ fn started<J: Naming + Send + Sync, R: Threads + Wait + Abort + AllocGlobal + Sy
 )
 where
     Published<J>: Absorb<Event<J>, State = [Batch; 0]>,
-    requires { (opened ≡ J.book) × (kinds ≡ J.opening) }
+    requires { (opened.identity ≡ J.book) × (opened.opening ≡ J.opening) × (kinds ≡ J.opening) }
 {
-    let copy = kinds.copied().expect(rt, "memory");
-    let Ok((mut publisher, mut passes)) = Publisher::start(rt.alloc(), opened, kinds, 1) else {
+    let Ok((mut publisher, mut passes)) = Publisher::start(rt.alloc(), opened, 1) else {
         assert!(rt; false, "a publisher is started");
         return;
     };
     let mut pass = passes.pop().expect(rt, "a pass");
-    let (wrong, refused) = race(rt, rt.alloc(), &mut publisher, &mut pass, &copy);
+    let (wrong, refused) = race(rt, rt.alloc(), &mut publisher, &mut pass, &kinds);
     assert_eq!(rt; (wrong, refused), (0, 0));
     pass.learn(publisher.tell());
     assert_eq!(rt; pass.number(), ROUNDS);

@@ -12,14 +12,14 @@ use Rattle.control_core.specs.Slots.{CountsSlot}
 use Rattle.control_core.specs.declared.limits.RunFault.{RunFault}
 use Rattle.control_core.specs.declared.limits.RunFault.TheVariants as fault
 use Rattle.control_core.proofs.Places.{some_at}
-use Rattle.urpf_cli.specs.Inputs.{Input, Run, events_of}
-use Rattle.urpf_cli.specs.Limits.{StaysBelow}
+use Rattle.run_lines.specs.Inputs.{Input, Run, events_of}
+use Rattle.run_lines.specs.Limits.{StaysBelow}
 use Rattle.urpf_cli.specs.Outputs.{Reads}
-use Rattle.urpf_cli.specs.RunText.{steps_for}
-use Rattle.urpf_cli.specs.Runs.{CountEach, NamesSession, NoneRose, RanBook}
-use Rattle.urpf_cli.specs.Slots.{Slot, filled, slots_of, told_by}
+use Rattle.run_lines.specs.RunText.{steps_for}
+use Rattle.run_lines.specs.Runs.{CountEach, NamesSession, NoneRose, RanBook}
+use Rattle.run_lines.specs.Slots.{Slot, filled, slots_of, told_by}
 use Rattle.urpf_cli.specs.Statuses.{IsRunStatus, status_of_run}
-use Rattle.urpf_cli.proofs.Limiting.{below_done}
+use Rattle.run_lines.proofs.Limiting.{below_done}
 use Rattle.urpf_cli.proofs.Outputs.{some_inputs}
 
 -- what a run came to is told by its status

@@ -22,13 +22,12 @@ use Rattle.session_fsm.specs.declared.items.Effect.{Effect}
 use Rattle.control_core.specs.Effects.{HoldsSoMany}
 use Rattle.control_core.specs.Worlds.{pairs_after}
 use Rattle.control_core.proofs.RunLaws.{one_count}
-use Rattle.urpf_cli.specs.Inputs.{Input, Run}
-use Rattle.urpf_cli.specs.PairTables.{pairs_in, skipped_in}
-use Rattle.urpf_cli.specs.Places.{Place, Reached, items_at, mark_at, next_place, opening, place_after, reached_at}
-use Rattle.urpf_cli.specs.RunText.{AreTotals, CheckGives, GiveAll, Gives, IsHead, IsRunText, LeaveRoutes}
-use Rattle.urpf_cli.specs.RunText.{PublishGives, head_text}
-use Rattle.urpf_cli.specs.declared.run.Totals.{Totals}
-use Rattle.urpf_cli.specs.Steps.{Step, pull, publish, round, check, change, summary, steps_of}
+use Rattle.run_lines.specs.Inputs.{Input, Run, pairs_in, skipped_in}
+use Rattle.run_lines.specs.Places.{Place, Reached, items_at, mark_at, next_place, opening, place_after, reached_at}
+use Rattle.run_lines.specs.RunText.{AreTotals, CheckGives, GiveAll, Gives, IsHead, IsRunText, LeaveRoutes}
+use Rattle.run_lines.specs.RunText.{PublishGives, head_text}
+use Rattle.run_lines.specs.declared.run.Totals.{Totals}
+use Rattle.run_lines.specs.Steps.{Step, pull, publish, round, check, change, summary, steps_of}
 use Rattle.urpf_cli.proofs.SameRuns.{AreAlike, RunsAlike, after_alike, next_alike, pull_alike, same_cells, same_kinds}
 use Rattle.urpf_cli.proofs.SameRuns.{same_pairs, same_rows}
 

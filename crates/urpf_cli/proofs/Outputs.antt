@@ -14,17 +14,17 @@ use Rattle.control_core.proofs.ItemLaws.{are_items, items_after, items_by_cuts, 
 use Rattle.control_core.proofs.ItemLaws.{rest_by_cuts, some_rest}
 use Rattle.control_core.proofs.RunLaws.{one_run}
 use Rattle.control_core.proofs.SomeRun.{some_run}
-use Rattle.urpf_cli.specs.Inputs.{Input, IsInput, Run}
+use Rattle.run_lines.specs.Inputs.{Input, IsInput, Run}
 use Rattle.urpf_cli.specs.Openings.{Texts}
 use Rattle.urpf_cli.specs.Outputs.{HaveSameItems, IsOutput, Reads}
 use Rattle.urpf_cli.specs.PairTables.{HasTable}
-use Rattle.urpf_cli.specs.RunText.{IsRunText}
-use Rattle.urpf_cli.specs.Steps.{lines_in}
+use Rattle.run_lines.specs.RunText.{IsRunText}
+use Rattle.run_lines.specs.Steps.{lines_in}
 use Rattle.urpf_cli.specs.Words.{PairsFrom}
 use Rattle.urpf_cli.proofs.OneText.{one_text}
 use Rattle.urpf_cli.proofs.OpeningLaws.{one_config}
 use Rattle.urpf_cli.proofs.SameRuns.{AreAlike, RunsAlike}
-use Rattle.urpf_cli.proofs.SomeText.{some_text}
+use Rattle.run_lines.proofs.SomeText.{some_text}
 use Rattle.urpf_cli.proofs.TableLaws.{one_has}
 
 -- a session that is configured so has an input over these events

@@ -19,11 +19,10 @@ use Rattle.session_fsm.specs.declared.items.Effect.{Effect}
 use Rattle.control_core.specs.Effects.{Holds}
 use Rattle.control_core.specs.Pulls.{reset_lines}
 use Rattle.control_core.specs.Worlds.{IsRowOfAny, Position, kinds_after, pairs_after}
-use Rattle.urpf_cli.specs.Inputs.{Input, Run}
-use Rattle.urpf_cli.specs.PairTables.{pairs_in}
-use Rattle.urpf_cli.specs.Places.{Place, Reached, next_place, place_after, pulled, pulled_of, reached_at}
-use Rattle.urpf_cli.specs.RunText.{IsWorldOf, pull_text_of}
-use Rattle.urpf_cli.specs.Steps.{Step, pull, publish, round, check, change, summary}
+use Rattle.run_lines.specs.Inputs.{Input, Run, pairs_in}
+use Rattle.run_lines.specs.Places.{Place, Reached, next_place, place_after, pulled, pulled_of, reached_at}
+use Rattle.run_lines.specs.RunText.{IsWorldOf, pull_text_of}
+use Rattle.run_lines.specs.Steps.{Step, pull, publish, round, check, change, summary}
 
 -- two sessions are configured alike, have the same effects, and leave as many octets
 pub record AreAlike (one other : Input) : Type 0 where

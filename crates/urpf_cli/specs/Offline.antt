@@ -5,14 +5,14 @@ use Rattle.roa_irr.specs.Tables.{Table}
 use Rattle.router_config.specs.Settings.{Settings}
 use Rattle.runbook.specs.declared.lines.BookLine.{BookLine}
 use Rattle.control_core.specs.declared.limits.RunFault.{RunFault}
-use Rattle.urpf_cli.specs.Inputs.{Run}
-use Rattle.urpf_cli.specs.Limits.{StaysBelow}
+use Rattle.run_lines.specs.Inputs.{Run}
+use Rattle.run_lines.specs.Limits.{StaysBelow}
 use Rattle.urpf_cli.specs.Openings.{Opens, Texts}
 use Rattle.urpf_cli.specs.Outputs.{Reads}
-use Rattle.urpf_cli.specs.RunText.{IsRunText, steps_for}
-use Rattle.urpf_cli.specs.Runs.{EmptiesSome, RanBook, TookFront}
-use Rattle.urpf_cli.specs.Slots.{Slot}
-use Rattle.urpf_cli.specs.Steps.{lines_in, steps_of}
+use Rattle.run_lines.specs.RunText.{IsRunText, steps_for}
+use Rattle.run_lines.specs.Runs.{EmptiesSome, RanBook, TookFront}
+use Rattle.run_lines.specs.Slots.{Slot}
+use Rattle.run_lines.specs.Steps.{lines_in, steps_of}
 
 -- the run of these words and texts over these events asks past no limit
 pub record IsBelowLimits (words : List (List ℕ)) (texts : Texts) (events : List (List Event)) : Type 0 where

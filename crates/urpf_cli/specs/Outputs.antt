@@ -6,11 +6,11 @@ use Rattle.control_core.specs.Items.{AreItems, IsRest, Item}
 use Rattle.router_config.specs.Settings.{IsConfig, Settings}
 use Rattle.runbook.specs.declared.lines.BookLine.{BookLine}
 use Rattle.runbook.specs.Book.{IsBook}
-use Rattle.urpf_cli.specs.Inputs.{IsRun, Run, events_of}
+use Rattle.run_lines.specs.Inputs.{IsRun, Run, events_of}
 use Rattle.urpf_cli.specs.Openings.{Texts}
 use Rattle.urpf_cli.specs.PairTables.{HasTable}
-use Rattle.urpf_cli.specs.RunText.{IsRunText}
-use Rattle.urpf_cli.specs.Steps.{lines_in}
+use Rattle.run_lines.specs.RunText.{IsRunText}
+use Rattle.run_lines.specs.Steps.{lines_in}
 use Rattle.urpf_cli.specs.Words.{PairsFrom}
 
 -- the events of a feed have the same items as those of another, and leave as many octets behind them

@@ -1,7 +1,6 @@
 -- The table of pairs that a run begins with: the pairs of ROAs (RFC 6482) or of route objects (RFC 2622, section 4, and
 -- RFC 4012, section 3), where the words name a table. How many it may have is our own choice.
-use Rattle.std.specs.Prelude.{◌≡◌, ℕ, ◌<◌, ◌≤◌, List, [], length, Option, Some, None, IsSomeAnd}
-use Rattle.origin_pairs.specs.Pairs.{Pair}
+use Rattle.std.specs.Prelude.{◌≡◌, ℕ, ◌<◌, ◌≤◌, List, length, Option, None, IsSomeAnd}
 use Rattle.roa_irr.specs.Irr.{IsIrrTable}
 use Rattle.roa_irr.specs.Tables.{Table, pairs_max}
 use Rattle.roa_irr.specs.Vrps.{IsVrpTable}
@@ -38,13 +37,3 @@ abbrev pub IsPairsRefused : PairsFrom → List ℕ → TextRefusal TooManyPairs 
 IsPairsRefused nowhere text refusal = ⊥
 IsPairsRefused (table form name) text refusal =
     IsTextRefused PAIRS_OCTETS (λ fault. HasTooMany form text) text refusal
-
--- the pairs that a run begins with, in their order and with repeats
-abbrev pub pairs_in : Option Table → List Pair
-pairs_in None = []
-pairs_in (Some pairs) = pairs.pairs
-
--- how many records or objects gave no pair
-abbrev pub skipped_in : Option Table → ℕ
-skipped_in None = 0
-skipped_in (Some pairs) = pairs.skipped

@@ -11,7 +11,7 @@ use Rattle.urpf_cli.specs.declared.refusals.Refusal.TheVariants as opening
 use Rattle.urpf_cli.specs.declared.refusals.TextRefusal.{TextRefusal}
 use Rattle.urpf_cli.specs.declared.refusals.TextRefusal.TheVariants as text
 use Rattle.urpf_cli.specs.declared.refusals.TooManyPairs.{TooManyPairs}
-use Rattle.urpf_cli.specs.Runs.{NamesSession}
+use Rattle.run_lines.specs.Runs.{NamesSession}
 use Rattle.urpf_cli.specs.declared.session.SessionFault.{SessionFault}
 use Rattle.urpf_cli.specs.declared.session.SessionFault.TheVariants as stream
 use Rattle.bgp_update.specs.declared.subcodes.TheConstants.{UPDATE_MESSAGE_ERROR}

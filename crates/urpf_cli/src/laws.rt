@@ -8,14 +8,14 @@ ghost use Rattle.roa_irr.specs.Tables.{Table};
 ghost use Rattle.router_config.specs.Settings.{IsConfig, Settings};
 ghost use Rattle.runbook.specs.Book.{IsBook};
 ghost use Rattle.runbook.specs.declared.lines.BookLine.{BookLine};
-ghost use Rattle.urpf_cli.specs.Inputs.{Run};
+ghost use Rattle.run_lines.specs.Inputs.{Run};
 ghost use Rattle.urpf_cli.specs.Openings.{IsDecided, IsRefused, Opens, Texts};
 ghost use Rattle.urpf_cli.specs.Outputs.{HaveSameItems, IsOutput};
 ghost use Rattle.urpf_cli.specs.PairTables.{HasTable};
-ghost use Rattle.urpf_cli.specs.Places.{Place};
-ghost use Rattle.urpf_cli.specs.RunText.{Gives, IsRunText};
+ghost use Rattle.run_lines.specs.Places.{Place};
+ghost use Rattle.run_lines.specs.RunText.{Gives, IsRunText};
 ghost use Rattle.urpf_cli.specs.Statuses.{status_of_refusal};
-ghost use Rattle.urpf_cli.specs.Steps.{Step};
+ghost use Rattle.run_lines.specs.Steps.{Step};
 ghost use Rattle.urpf_cli.specs.Words.{PairsFrom};
 ghost use Rattle.urpf_cli.specs.declared.refusals.Refusal.{Refusal};
 

@@ -7,8 +7,6 @@ mod offline_command;
 mod opening;
 mod pair_table;
 mod refusals;
-mod run;
-mod run_line;
 mod session;
 mod status;
 mod status_text;

@@ -13,17 +13,17 @@ ghost use Rattle.urpf_cli.specs.declared.refusals.Refusal.{Refusal};
 ghost use Rattle.urpf_cli.specs.declared.refusals.TextRefusal.{TextRefusal};
 ghost use Rattle.urpf_cli.specs.Offline.{IsBelowLimits, RanText, TookRunFront};
 ghost use Rattle.urpf_cli.specs.Openings.{AreTold, Configures, IsBeforePairs, IsDecided, IsRefused, IsRunbook, Texts};
-ghost use Rattle.urpf_cli.specs.Runs.{CountEach, NoneRose};
-ghost use Rattle.urpf_cli.specs.Slots.{filled, slots_of};
+ghost use Rattle.run_lines.specs.Runs.{CountEach, NoneRose};
+ghost use Rattle.run_lines.specs.Slots.{filled, slots_of};
 ghost use Rattle.urpf_cli.specs.Statuses.{IsRunStatus, status_of_book, status_of_config, status_of_refusal, status_of_run};
 ghost use Rattle.urpf_cli.specs.Words.{AreOfflineWords, nowhere};
 
 use crate::opening::{Opening, open_run};
 use crate::refusals::status_of_refusal;
-use crate::run::run_book;
 use crate::status::{Object, Status};
 use control_core::RunFault;
 use feed_io::{BoxedFeed, Feed};
+use run_lines::run_book;
 use std::alloc::Global;
 use urpf_base::{Sink, Source};
 

@@ -1,6 +1,6 @@
 use Rattle.urpf_cli.proofs.OneText.{one_text}
 use Rattle.urpf_cli.proofs.SameRuns.{itself}
-use Rattle.urpf_cli.proofs.SomeText.{some_gives, some_text}
+use Rattle.run_lines.proofs.SomeText.{some_gives, some_text}
 use Rattle.urpf_cli.proofs.laws.one_run_text.Goals as goal
 
 pub returns-clause-step : goal.returns-clause-step

@@ -5,18 +5,18 @@ use Rattle.control_core.specs.declared.limits.RunFault.{RunFault}
 use Rattle.control_core.specs.declared.limits.RunFault.TheVariants.{OutOfMemory, ReadFault}
 use Rattle.router_config.specs.Settings.{Settings}
 use Rattle.runbook.specs.declared.lines.BookLine.{BookLine}
-use Rattle.urpf_cli.specs.Inputs.{events_of}
-use Rattle.urpf_cli.specs.Limits.{StaysBelow}
+use Rattle.run_lines.specs.Inputs.{events_of}
+use Rattle.run_lines.specs.Limits.{StaysBelow}
 use Rattle.urpf_cli.specs.Openings.{IsBeforePairs, IsFailure, IsRefused, Opens}
-use Rattle.urpf_cli.specs.RunText.{steps_for}
-use Rattle.urpf_cli.specs.Runs.{NamesSession, RanBook}
+use Rattle.run_lines.specs.RunText.{steps_for}
+use Rattle.run_lines.specs.Runs.{NamesSession, RanBook}
 use Rattle.urpf_cli.specs.Statuses.{IsRunStatus, status_of_run}
-use Rattle.urpf_cli.specs.Slots.{slots_of}
-use Rattle.urpf_cli.specs.Steps.{lines_in, steps_of}
+use Rattle.run_lines.specs.Slots.{slots_of}
+use Rattle.run_lines.specs.Steps.{lines_in, steps_of}
 use Rattle.urpf_cli.specs.declared.refusals.Refusal.{Refusal}
 use Rattle.urpf_cli.specs.declared.refusals.Refusal.TheVariants.{Book, Config, Misused, Pairs}
 use Rattle.urpf_cli.specs.declared.refusals.TextRefusal.TheVariants as text
-use Rattle.urpf_cli.proofs.FeedFaults.{each_by}
+use Rattle.run_lines.proofs.FeedFaults.{each_by}
 use Rattle.urpf_cli.proofs.OfflineEnds.{as_many_told, begun, done_below, none_failed, one_run_end, run_known}
 use Rattle.urpf_cli.proofs.OpeningLaws.{one_opening, opens_or_refused}
 use Rattle.urpf_cli.proofs.RefusalStatuses.{before_pairs, failure_told, one_status, one_told}

@@ -1,0 +1,8 @@
+pub mod Inputs
+pub mod Limits
+pub mod Places
+pub mod RunText
+pub mod Runs
+pub mod Slots
+pub mod Steps
+pub mod Stops

@@ -1,0 +1,4 @@
+pub mod Octets
+pub mod Records
+pub mod Answering
+pub mod Passing

@@ -20,7 +20,7 @@ const MOST: u32 = 4_000_000;
 const ORIGINS: u32 = 50_000;
 
 /// How many prefixes there are, and how many sources are checked.
-#[derive(Clone, Copy, Debug, PartialEq, Eq)]
+#[derive(Clone, Copy)]
 pub struct Checks {
     pub count: u32,
     pub asked: u32,
@@ -59,7 +59,7 @@ pub fn row(place: u32) -> Option<Row>
 }
 
 /// The places that prefixes of sources are drawn from: so many, from this one on.
-#[derive(Clone, Copy, Debug, PartialEq, Eq)]
+#[derive(Clone, Copy)]
 pub struct Places {
     pub first: u32,
     pub span: u32,
@@ -75,7 +75,7 @@ impl Places {
 }
 
 /// Numbers that follow from one another by three shifts (Marsaglia's xorshift of 64 bits).
-#[derive(Clone, Copy, Debug, PartialEq, Eq)]
+#[derive(Clone, Copy)]
 struct Draws {
     state: u64,
 }

@@ -46,37 +46,34 @@ fn main(rt: HostRuntime) -> ExitCode {
 /// Measures what the words say. Nothing where they say nothing.
 fn run<R: AllocGlobal + Env + Print>(rt: &R) -> Result<(), OutOfMemory> {
     let words = words(rt)?;
-    if words.len() == 3 && words[0].as_str() == "cells" {
-        return match Checks::read(&words[1..]) {
-            Some(checks) => measure_checks(rt, &checks),
-            None => Ok(()),
-        };
-    }
-    if words.len() != 5 {
-        return Ok(());
-    }
-    let Some(sizes) = Sizes::read(&words[1..]) else {
-        return Ok(());
-    };
-    match words[0].as_str() {
-        "rows" => measure_rows(rt, &sizes),
-        "routes" => measure_routes(rt, &sizes),
-        _ => Ok(()),
-    }
+    measure(rt, &words)
 }
 
-/// The words after the program's name.
+/// The words, the program's name first.
 fn words<R: AllocGlobal + Env>(rt: &R) -> Result<Vec<String>, OutOfMemory> {
     let mut words = Vec::new(rt.alloc());
     let Ok(args) = env::args(rt) else {
         return Ok(words);
     };
-    for word in args.skip(1) {
+    for word in args {
         let Ok(()) = words.push(word) else {
             return Err(OutOfMemory);
         };
     }
     Ok(words)
+}
+
+/// Measures what these words say, the first of which is the program's name.
+fn measure<R: AllocGlobal + Print>(rt: &R, words: &[String]) -> Result<(), OutOfMemory> {
+    let [_, name, sizes @ ..] = words else {
+        return Ok(());
+    };
+    match name.as_str() {
+        "rows" => measure_rows(rt, sizes),
+        "routes" => measure_routes(rt, sizes),
+        "cells" => measure_checks(rt, sizes),
+        _ => Ok(()),
+    }
 }
 
 /// The four interfaces.
@@ -87,18 +84,41 @@ fn four(alloc: Global) -> Result<Kinds, OutOfMemory> {
     config.kinds()
 }
 
-/// Fills an engine, and drains it: first, unchanged, after one more row, and after another role.
-fn measure_rows<R: AllocGlobal + Print>(rt: &R, sizes: &Sizes) -> Result<(), OutOfMemory> {
-    let mut filled = Filled::new(rt.alloc(), four(rt.alloc())?)?;
+/// Fills an engine, and drains it.
+fn measure_rows<R: AllocGlobal + Print>(rt: &R, words: &[String]) -> Result<(), OutOfMemory> {
+    let Some(sizes) = Sizes::read(words) else {
+        return Ok(());
+    };
+    let mut filled = begun(rt.alloc())?;
+    fill_and_drain(rt, &mut filled, &sizes)
+}
+
+/// The same with the engine that is lent.
+fn fill_and_drain<R: Print>(rt: &R, filled: &mut Filled, sizes: &Sizes) -> Result<(), OutOfMemory> {
     tell(rt, b"begun", 0);
-    fill(&mut filled, sizes)?;
+    fill(filled, sizes)?;
     tell(rt, b"added", filled.rows());
-    tell(rt, b"drained", filled.drain()?);
-    tell(rt, b"unchanged", filled.drain()?);
-    add_row(&mut filled, sizes, sizes.count)?;
-    tell(rt, b"one-more", filled.drain()?);
-    set_first_role(&mut filled, Role::Peer)?;
-    tell(rt, b"role", filled.drain()?);
+    drain_all(rt, filled, sizes)
+}
+
+/// An engine of the four interfaces without rows.
+fn begun(alloc: Global) -> Result<Filled, OutOfMemory> {
+    Filled::new(alloc, four(alloc)?)
+}
+
+/// Drains the engine: first, unchanged, after one more row, and after another role.
+fn drain_all<R: Print>(rt: &R, filled: &mut Filled, sizes: &Sizes) -> Result<(), OutOfMemory> {
+    drain(rt, b"drained", filled)?;
+    drain(rt, b"unchanged", filled)?;
+    add_row(filled, sizes, sizes.count)?;
+    drain(rt, b"one-more", filled)?;
+    set_first_role(filled, Role::Peer)?;
+    drain(rt, b"role", filled)
+}
+
+/// Drains the engine, and tells how many cells changed.
+fn drain<R: Print>(rt: &R, name: &[u8], filled: &mut Filled) -> Result<(), OutOfMemory> {
+    tell(rt, name, filled.drain()?);
     Ok(())
 }
 
@@ -127,21 +147,35 @@ fn set_first_role(filled: &mut Filled, role: Role) -> Result<(), OutOfMemory> {
 }
 
 /// Has a snapshot take over the cells of the prefixes, checks sources, and takes over one cell more.
-fn measure_checks<R: AllocGlobal + Print>(rt: &R, checks: &Checks) -> Result<(), OutOfMemory> {
-    let mut filled = Filled::new(rt.alloc(), four(rt.alloc())?)?;
+fn measure_checks<R: AllocGlobal + Print>(rt: &R, words: &[String]) -> Result<(), OutOfMemory> {
+    let Some(checks) = Checks::read(words) else {
+        return Ok(());
+    };
+    let mut filled = begun(rt.alloc())?;
     let mut snapshot = Snapshot::new(rt.alloc(), four(rt.alloc())?);
-    for place in 0..checks.count {
-        add_cell(&mut filled, place)?;
+    check_cells(rt, &checks, &mut filled, &mut snapshot)
+}
+
+/// The same with the engine and the snapshot that are lent.
+fn check_cells<R: AllocGlobal + Print>(
+    rt: &R,
+    checks: &Checks,
+    filled: &mut Filled,
+    snapshot: &mut Snapshot,
+) -> Result<(), OutOfMemory> {
+    add_cells(filled, checks.count)?;
+    take_over(rt, filled, snapshot)?;
+    check_all(rt, snapshot, checks)?;
+    add_cell(filled, checks.count)?;
+    take_over(rt, filled, snapshot)
+}
+
+/// Adds so many rows of interface 0.
+fn add_cells(filled: &mut Filled, count: u32) -> Result<(), OutOfMemory> {
+    for place in 0..count {
+        add_cell(filled, place)?;
     }
-    take_over(rt, &mut filled, &mut snapshot)?;
-    let both = Places::new(0, checks.count.saturating_mul(2));
-    let there = Places::new(0, checks.count);
-    let behind = Places::new(checks.count, checks.count);
-    check(rt, &snapshot, b"mixed", both, checks.asked)?;
-    check(rt, &snapshot, b"hits", there, checks.asked)?;
-    check(rt, &snapshot, b"misses", behind, checks.asked)?;
-    add_cell(&mut filled, checks.count)?;
-    take_over(rt, &mut filled, &mut snapshot)
+    Ok(())
 }
 
 /// Adds a row of interface 0, which makes one cell.
@@ -158,16 +192,37 @@ fn take_over<R: AllocGlobal + Print>(
     filled: &mut Filled,
     snapshot: &mut Snapshot,
 ) -> Result<(), OutOfMemory> {
-    let batch = Batch {
-        number: snapshot.number().saturating_add(1),
-        kinds: four(rt.alloc())?,
-        changes: filled.changes()?,
-    };
+    let batch = next_batch(rt.alloc(), filled, snapshot.number())?;
     let count = batch.changes.items().len() as u64;
     tell(rt, b"listed", count);
     snapshot.absorb(&batch)?;
     tell(rt, b"absorbed", count);
     Ok(())
+}
+
+/// The batch of the cells that changed, which comes after the one of this number.
+fn next_batch(alloc: Global, filled: &mut Filled, last: u64) -> Result<Batch, OutOfMemory> {
+    let kinds = four(alloc)?;
+    let changes = filled.changes()?;
+    Ok(Batch {
+        number: last.saturating_add(1),
+        kinds,
+        changes,
+    })
+}
+
+/// Checks sources half of which are there, all, and none.
+fn check_all<R: AllocGlobal + Print>(
+    rt: &R,
+    snapshot: &Snapshot,
+    checks: &Checks,
+) -> Result<(), OutOfMemory> {
+    let both = Places::new(0, checks.count.saturating_mul(2));
+    let there = Places::new(0, checks.count);
+    let behind = Places::new(checks.count, checks.count);
+    check(rt, snapshot, b"mixed", both, checks.asked)?;
+    check(rt, snapshot, b"hits", there, checks.asked)?;
+    check(rt, snapshot, b"misses", behind, checks.asked)
 }
 
 /// Checks so many drawn sources in prefixes at these places.
@@ -185,10 +240,13 @@ fn check<R: AllocGlobal + Print>(
 }
 
 /// Fills an Adj-RIB-In with the prefixes of the rows of one interface.
-fn measure_routes<R: AllocGlobal + Print>(rt: &R, sizes: &Sizes) -> Result<(), OutOfMemory> {
+fn measure_routes<R: AllocGlobal + Print>(rt: &R, words: &[String]) -> Result<(), OutOfMemory> {
+    let Some(sizes) = Sizes::read(words) else {
+        return Ok(());
+    };
     let mut routes = AdjRib::new(rt.alloc());
     tell(rt, b"begun", 0);
-    announce(&mut routes, sizes)?;
+    announce(&mut routes, &sizes)?;
     tell(rt, b"added", routes.len() as u64);
     Ok(())
 }

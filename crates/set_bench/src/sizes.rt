@@ -4,7 +4,7 @@ ghost use Rattle.std.specs.Prelude.{◌≤◌, IfSome};
 use ip_text::read_number;
 
 /// How many rows or routes, on how many interfaces, of how many origins, and in which order.
-#[derive(Clone, Copy, Debug, PartialEq, Eq)]
+#[derive(Clone, Copy)]
 pub struct Sizes {
     pub count: u32,
     pub ifaces: u16,

@@ -63,7 +63,10 @@ where
         Story::Refused => refused(rt, &mut publisher, &mut passes, &kinds),
     }
     publisher.end(rt);
-    is_gone(rt, &mut passes);
+    match story {
+        Story::Worked => is_gone(rt, &mut passes),
+        Story::Refused => {}
+    }
     true
 }
 

@@ -1,4 +1,4 @@
-"""What bench/sets and bench/lookups share: the program set_bench is built, and its steps are measured.
+"""What bench/sets, bench/lookups and bench/passes share: the program set_bench is built, and its steps are measured.
 
 The program writes a line of a name and a number after each step. Imported by them, and not run by itself.
 """

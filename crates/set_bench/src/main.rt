@@ -1,17 +1,21 @@
 //! The program: `rows COUNT INTERFACES ORIGINS ascending|none` fills an engine of the source sets and
 //! drains it; `routes` with the same words fills Adj-RIBs-In, one an interface; `cells COUNT CHECKS`
-//! has a snapshot take over the cells of so many prefixes, and check so many sources three times. A
-//! line is written after each step, so that who reads the lines can tell how long a step took and
-//! what memory it left.
+//! has a snapshot take over the cells of so many prefixes, and check so many sources three times;
+//! `passes COUNT CHECKS PASSES idle|busy` publishes these cells to so many passes, which check sources
+//! meanwhile, or the first one afterwards. A line is written after each step, so that who reads the
+//! lines can tell how long a step took and what memory it left.
 #![tactic(auto)]
 
+mod askers;
 mod checked;
 mod filled;
+mod published;
 mod rows;
 mod sizes;
 
 use crate::checked::{Checks, Places, drawn, passed};
 use crate::filled::Filled;
+use crate::published::{Publications, publish_and_check};
 use crate::rows::{prefix, row};
 use crate::sizes::Sizes;
 use adj_rib::AdjRib;
@@ -22,6 +26,8 @@ use std::alloc::Global;
 use std::io::Write;
 use std::process::ExitCode;
 use std::rt::Env;
+use std::sync::Wait;
+use std::thread::Threads;
 use std::{env, io};
 use urpf_base::{IfaceId, Line, OutOfMemory, Role};
 
@@ -44,7 +50,7 @@ fn main(rt: HostRuntime) -> ExitCode {
 }
 
 /// Measures what the words say. Nothing where they say nothing.
-fn run<R: AllocGlobal + Env + Print>(rt: &R) -> Result<(), OutOfMemory> {
+fn run<R: AllocGlobal + Env + Print + Threads + Wait + Sync>(rt: &R) -> Result<(), OutOfMemory> {
     let words = words(rt)?;
     measure(rt, &words)
 }
@@ -64,7 +70,10 @@ fn words<R: AllocGlobal + Env>(rt: &R) -> Result<Vec<String>, OutOfMemory> {
 }
 
 /// Measures what these words say, the first of which is the program's name.
-fn measure<R: AllocGlobal + Print>(rt: &R, words: &[String]) -> Result<(), OutOfMemory> {
+fn measure<R: AllocGlobal + Print + Threads + Wait + Sync>(
+    rt: &R,
+    words: &[String],
+) -> Result<(), OutOfMemory> {
     let [_, name, sizes @ ..] = words else {
         return Ok(());
     };
@@ -72,6 +81,7 @@ fn measure<R: AllocGlobal + Print>(rt: &R, words: &[String]) -> Result<(), OutOf
         "rows" => measure_rows(rt, sizes),
         "routes" => measure_routes(rt, sizes),
         "cells" => measure_checks(rt, sizes),
+        "passes" => measure_passes(rt, sizes),
         _ => Ok(()),
     }
 }
@@ -237,6 +247,19 @@ fn check<R: AllocGlobal + Print>(
     tell(rt, b"drawn", u64::from(count));
     tell(rt, name, passed(snapshot, &sources) as u64);
     Ok(())
+}
+
+/// Publishes the cells of the prefixes to passes, which check sources.
+fn measure_passes<R: AllocGlobal + Print + Threads + Wait + Sync>(
+    rt: &R,
+    words: &[String],
+) -> Result<(), OutOfMemory> {
+    let Some(sizes) = Publications::read(words) else {
+        return Ok(());
+    };
+    let mut filled = begun(rt.alloc())?;
+    add_cells(&mut filled, sizes.count())?;
+    publish_and_check(rt, four(rt.alloc())?, &mut filled, &sizes)
 }
 
 /// Fills an Adj-RIB-In with the prefixes of the rows of one interface.

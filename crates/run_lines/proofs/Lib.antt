@@ -2,7 +2,9 @@ pub mod Asking
 pub mod Composing
 pub mod Emptied
 pub mod FeedFaults
+pub mod HandingOn
 pub mod Heads
+pub mod InStep
 pub mod Knowing
 pub mod Leading
 pub mod Limiting

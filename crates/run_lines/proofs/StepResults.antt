@@ -28,12 +28,38 @@ use Rattle.control_core.proofs.Publications.{at_most_self}
 use Rattle.control_core.proofs.Shown.{one_last, shown_verdict}
 use Rattle.run_lines.specs.Inputs.{Input, Run, opening_of, pairs_in}
 use Rattle.run_lines.specs.Places.{Place, Reached, mark_at, next_place}
+use Rattle.run_lines.specs.Publications.{IsBatchAt}
 use Rattle.run_lines.specs.RunText.{CheckGives, IsWorldOf, LeaveRoutes, PublishGives, SummaryGives}
 use Rattle.run_lines.specs.Runs.{AreSessionsAt, IsAt, Serves, Shows}
 use Rattle.run_lines.specs.Slots.{Slot}
 use Rattle.run_lines.specs.Steps.{change, publish, round}
 use Rattle.run_lines.proofs.SessionsAt.{IsFront}
 use Rattle.run_lines.proofs.WorldsOf.{fronts_at, mark_reached, mark_same, number_at, world_whole}
+
+-- the batch of a publication
+pub batch_at : (run : Run) (place : Place) (old new : ControlState) (rounds : ℕ) (slots : List Slot) (batch : Batch)
+    → (s : IsAt run place old rounds slots) → Publishes old new batch
+    → PublishesDifference (opening_of run) place.edits s.courses old batch → IsBatchAt run place batch
+batch_at run place old new rounds slots batch s publishes d =
+    let last : d.last ≡ place.mark = one_last old.marks d.earlier s.earlier d.last place.mark d.marks s.marks in
+    let number : batch.number ≡ place.mark.number + 1 =
+    publishes.number ∙ ap (λ (n : ℕ). n + 1) (number_at run place old rounds slots s) in
+    let now : position_of old batch.number ≡ mark_at place (place.mark.number + 1) =
+    mark_same run place old rounds slots batch.number s ∙ ap (mark_at place) number in
+    record {
+      number = number;
+      old_kinds = d.kinds_before;
+      old = d.before;
+      was = world_whole run place old rounds slots place.mark d.kinds_before d.before s
+          (mark_reached run place old rounds slots s)
+          (subst (λ (mark : Position). IsWorldAt (opening_of run) place.edits s.courses mark d.kinds_before d.before)
+          last d.was);
+      new = d.after;
+      is = subst (λ (mark : Position). IsWorldOf run place mark batch.kinds d.after) now
+          (world_whole run place old rounds slots (position_of old batch.number) batch.kinds d.after s
+          (at_most_self (items_of old.peers)) d.is);
+      difference = d.difference;
+    }
 
 -- what a publication gives
 pub published_gives : (run : Run) (place : Place) (old new : ControlState) (rounds : ℕ)
@@ -43,27 +69,20 @@ pub published_gives : (run : Run) (place : Place) (old new : ControlState) (roun
     → text ≡ publish_line batch.number old.edits (length batch.changes) (items_of old.peers)
     → PublishGives run place text
 published_gives run place old new rounds slots batch text s publishes d is =
-    let last : d.last ≡ place.mark = one_last old.marks d.earlier s.earlier d.last place.mark d.marks s.marks in
-    let number : batch.number ≡ place.mark.number + 1 =
-    publishes.number ∙ ap (λ (n : ℕ). n + 1) (number_at run place old rounds slots s) in
+    let b = batch_at run place old new rounds slots batch s publishes d in
     let now : position_of old batch.number ≡ mark_at place (place.mark.number + 1) =
-    mark_same run place old rounds slots batch.number s ∙ ap (mark_at place) number in
+    mark_same run place old rounds slots batch.number s ∙ ap (mark_at place) b.number in
     let cells : ℕ = length batch.changes in
     record {
-      old_kinds = d.kinds_before;
-      old = d.before;
-      was = world_whole run place old rounds slots place.mark d.kinds_before d.before s
-          (mark_reached run place old rounds slots s)
-          (subst (λ (mark : Position). IsWorldAt (opening_of run) place.edits s.courses mark d.kinds_before d.before)
-          last d.was);
+      old_kinds = b.old_kinds;
+      old = b.old;
+      was = b.was;
       new_kinds = batch.kinds;
-      new = d.after;
-      is = subst (λ (mark : Position). IsWorldOf run place mark batch.kinds d.after) now
-          (world_whole run place old rounds slots (position_of old batch.number) batch.kinds d.after s
-          (at_most_self (items_of old.peers)) d.is);
+      new = b.new;
+      is = b.is;
       changes = batch.changes;
-      difference = d.difference;
-      same = is ∙ ap (λ (n : ℕ). publish_line n old.edits cells (items_of old.peers)) number
+      difference = b.difference;
+      same = is ∙ ap (λ (n : ℕ). publish_line n old.edits cells (items_of old.peers)) b.number
           ∙ ap (λ (n : ℕ). publish_line (place.mark.number + 1) n cells (items_of old.peers)) s.stands.counted
           ∙ ap (λ (mark : Position). publish_line (place.mark.number + 1) (length place.edits) cells mark.items) now;
     }

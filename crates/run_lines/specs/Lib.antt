@@ -1,6 +1,7 @@
 pub mod Inputs
 pub mod Limits
 pub mod Places
+pub mod Publications
 pub mod RunText
 pub mod Runs
 pub mod Slots

@@ -1,6 +1,6 @@
 //! A run over the sessions of a configuration: the lines of a runbook and a table of pairs come in, and
 //! the text of the run goes to a sink.
-ghost use Rattle.std.specs.Prelude.{◌≡◌, ◌≤◌, ◌<◌, ◌^◌, [], ◌∷◌, ℕ, Err, List, length, IfErr, IfOk, OnErr, OnOk};
+ghost use Rattle.std.specs.Prelude.{◌≡◌, ◌≤◌, ◌<◌, ◌^◌, [], ◌∷◌, ℕ, Err, List, length, slice_range, IfErr, IfOk, OnErr, OnOk};
 ghost use Rattle.std.specs.Io.KnownBytes.{Appends};
 ghost use Rattle.urpf_base.specs.Faults.{CountsFault};
 ghost use Rattle.urpf_base.specs.declared.sessions.SessionConfig.{SessionConfig};
@@ -12,12 +12,14 @@ ghost use Rattle.control_core.specs.declared.limits.RunFault.{RunFault};
 ghost use Rattle.control_core.specs.Controls.{IsOpened, IsUnused, first_mark, without_pairs};
 ghost use Rattle.control_core.specs.Worlds.{Opening, last_number};
 ghost use Rattle.run_lines.specs.Inputs.{IsRun, Run, opening_of, pairs_in, skipped_in};
-ghost use Rattle.run_lines.specs.Places.{opening};
+ghost use Rattle.run_lines.specs.Places.{Place, opening, place_after};
+ghost use Rattle.run_lines.specs.Publications.{Grows, HandedOn, IsInStep};
 ghost use Rattle.run_lines.specs.RunText.{AreTotals, head_text};
 ghost use Rattle.run_lines.specs.Runs.{CountEach, IsAt, NamesSession, RanBook, RanSteps, Serves, Shows, TookFront, run_limits};
 ghost use Rattle.run_lines.specs.Slots.{slots_of, told_by};
 ghost use Rattle.run_lines.specs.Steps.{lines_in, steps_of};
 
+use crate::outlet::Outlet;
 use crate::run_line::{put_last_mark, take_line};
 use control_core::{Control, ITEM_LIMIT, Limits, Marks, OCTET_LIMIT, RunFault, offer};
 use cover_table::Snapshot;
@@ -82,6 +84,7 @@ fn run_control<E: SetEngine, K: Sink>(
         × AreConfiguredFor opening.settings book.now × (length opening.settings.sessions ≤ 128) }
     requires slots { length feeds.old.items ≡ length control.old.peers }
     requires few { length book.now < 2 ^ 32 }
+    requires in_step { IsInStep control.old snapshot.old }
     ensures ran { (run : Run) → IsOpened (opening_of run) run_limits control.old
         → Shows run (opening run.config.sessions) control.old snapshot.old
         → AreTotals run.config run.table totals.now → IsRun run → slots_of ⟦<BoxedFeed as Feed>⟧.left feeds.old.items ≡ told_by run
@@ -93,7 +96,18 @@ fn run_control<E: SetEngine, K: Sink>(
     if let Err(fault) = open_run(totals, control.marks(), out) {
         return Err(fault);
     }
-    if let Err(fault) = take_lines(control, snapshot, book, feeds, out) {
+    let mut rounds = 0;
+    if let Err(fault) = take_lines(
+        control,
+        snapshot,
+        &(),
+        &mut rounds,
+        book,
+        0,
+        book.len(),
+        feeds,
+        out,
+    ) {
         return Err(fault);
     }
     let mut text = Line::new();
@@ -191,33 +205,57 @@ pub fn open_run<K: Sink>(totals: &Totals, marks: &Marks, out: &mut K) -> Result<
     offer(&second, out)
 }
 
-/// Takes all lines of the book, from the opening on.
-fn take_lines<E: SetEngine, K: Sink>(
+/// Takes the lines of the book from line `from` on, up to line `upto`, which is not taken. Lines are
+/// counted from 0.
+pub fn take_lines<E: SetEngine, A, T: Outlet<A>, K: Sink>(
     control: &mut Control<E>,
-    snapshot: &mut Snapshot,
+    outlet: &mut T,
+    aid: &A,
+    rounds: &mut u64,
     book: &Book,
+    from: usize,
+    upto: usize,
     feeds: &mut Vec<Option<BoxedFeed>>,
     out: &mut K,
 ) -> Result<(), RunFault>
+    requires range { (from ≤ upto) × (upto ≤ length book.now) }
     requires slots { length feeds.old.items ≡ length control.old.peers }
     requires serves { (config : Settings) × Serves config control.old × AreConfiguredFor config book.now }
     requires few { length book.now < 2 ^ 32 }
-    requires edits { control.old.edits ≡ 0 }
-    requires number { last_number control.old.marks ≡ 0 }
-    ensures ran { (run : Run) → IsAt run (opening run.config.sessions) control.old 0 (slots_of ⟦<BoxedFeed as Feed>⟧.left feeds.old.items)
-        → Shows run (opening run.config.sessions) control.old snapshot.old
-        → (rounds : ℕ) × RanSteps run (opening run.config.sessions)
-        (steps_of (length control.old.peers) (lines_in book.now)) result control.new rounds
-        (slots_of ⟦<BoxedFeed as Feed>⟧.left feeds.new.items) (K.held out.old) (K.held out.new) }
+    requires edits { control.old.edits ≤ from }
+    requires number { last_number control.old.marks ≤ from }
+    requires rounds { rounds.old ≤ from }
+    requires sound { T.sound outlet.old }
+    requires in_step { IsInStep control.old (T.shown outlet.old) }
+    ensures ran { (run : Run) (place : Place) → IsAt run place control.old rounds.old (slots_of ⟦<BoxedFeed as Feed>⟧.left feeds.old.items)
+        → Shows run place control.old (T.shown outlet.old)
+        → RanSteps run place (steps_of (length control.old.peers) (lines_in (slice_range book.now from upto))) result
+        control.new rounds.new (slots_of ⟦<BoxedFeed as Feed>⟧.left feeds.new.items) (K.held out.old) (K.held out.new) }
+    ensures shown { (run : Run) (place : Place) → IsAt run place control.old rounds.old (slots_of ⟦<BoxedFeed as Feed>⟧.left feeds.old.items)
+        → Shows run place control.old (T.shown outlet.old)
+        → OnOk result (Shows run (place_after run.inputs
+        (steps_of (length control.old.peers) (lines_in (slice_range book.now from upto))) place)
+        control.new (T.shown outlet.new)) }
+    ensures batches { (run : Run) (place : Place) → IsAt run place control.old rounds.old (slots_of ⟦<BoxedFeed as Feed>⟧.left feeds.old.items)
+        → Shows run place control.old (T.shown outlet.old)
+        → HandedOn run place (steps_of (length control.old.peers) (lines_in (slice_range book.now from upto))) result
+        (T.batches outlet.old) (T.batches outlet.new) }
+    ensures grows { Grows (T.batches outlet.old) (T.batches outlet.new) }
+    ensures sound { OnOk result (T.sound outlet.new) }
+    ensures in_step { OnOk result (IsInStep control.new (T.shown outlet.new)) }
     ensures names { IfErr result (NamesSession (length control.old.peers)) }
+    ensures serves { (config : Settings) → Serves config control.old → Serves config control.new }
+    ensures edits { control.new.edits ≤ upto }
+    ensures number { last_number control.new.marks ≤ upto }
+    ensures rounds { rounds.new ≤ upto }
     ensures feeds { CountEach ⟦<BoxedFeed as Feed>⟧.faults (λ s. result ≡ Err (RunFault.ReadFault s)) feeds.old.items feeds.new.items }
     ensures sink { CountsFault (result ≡ Err RunFault.WriteFault) (K.faults out.old) (K.faults out.new) }
 {
-    let mut rounds = 0;
+    let count = upto - from;
     let mut k = 0;
-    while k < book.len() {
-        let (_, line) = book.line(k);
-        if let Err(fault) = take_line(control, snapshot, &mut rounds, &line, feeds, out) {
+    while k < count {
+        let (_, line) = book.line(from + k);
+        if let Err(fault) = take_line(control, outlet, aid, rounds, &line, feeds, out) {
             return Err(fault);
         }
         k += 1;

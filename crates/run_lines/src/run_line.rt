@@ -1,6 +1,6 @@
 //! What one line of a runbook does to a run, and which lines of output it gives.
 ghost use Rattle.std.specs.Prelude.{◌≡◌, ◌+◌, ◌^◌, ◌<◌, ◌≤◌, [], ◌∷◌, ◌++◌, Err, IfErr, List, ℕ, OnOk, Option, Some};
-ghost use Rattle.std.specs.Prelude.{length};
+ghost use Rattle.std.specs.Prelude.{length, map};
 ghost use Rattle.urpf_base.specs.Faults.{CountsFault};
 ghost use Rattle.report_text.specs.Lines.{publish_line};
 ghost use Rattle.router_config.specs.Edits.{IsForConfigured};
@@ -14,11 +14,13 @@ ghost use Rattle.control_core.specs.Worlds.{Course, Opening, Position, last_numb
 ghost use Rattle.control_core.specs.declared.limits.RunFault.{RunFault};
 ghost use Rattle.run_lines.specs.Inputs.{Run};
 ghost use Rattle.run_lines.specs.Places.{Place, place_after};
+ghost use Rattle.run_lines.specs.Publications.{Grows, HandedOn, IsInStep};
 ghost use Rattle.run_lines.specs.Runs.{CountEach, CountsOn, IsAt, NamesSession, RanStep, RanSteps, Serves, Shows};
 ghost use Rattle.run_lines.specs.Slots.{Slot, slots_of};
 ghost use Rattle.run_lines.specs.Steps as steps;
 ghost use Rattle.run_lines.specs.Steps.{pulls_of, steps_in};
 
+use crate::outlet::Outlet;
 use control_core::{Control, Marks, RunFault, offer};
 use cover_table::{Batch, Snapshot};
 use feed_io::{BoxedFeed, Feed};
@@ -29,9 +31,10 @@ use runbook::BookLine;
 use urpf_base::{Addr, IfaceId, Line, OutOfMemory, Sink};
 
 /// Does what the line asks for, and offers what it gives to the sink.
-pub fn take_line<E: SetEngine, K: Sink>(
+pub fn take_line<E: SetEngine, A, T: Outlet<A>, K: Sink>(
     control: &mut Control<E>,
-    snapshot: &mut Snapshot,
+    outlet: &mut T,
+    aid: &A,
     rounds: &mut u64,
     line: &BookLine,
     feeds: &mut Vec<Option<BoxedFeed>>,
@@ -42,14 +45,21 @@ pub fn take_line<E: SetEngine, K: Sink>(
     requires edits { control.old.edits < 2 ^ 32 }
     requires number { last_number control.old.marks < 2 ^ 32 }
     requires rounds { rounds.old < 2 ^ 32 }
+    requires sound { T.sound outlet.old }
+    requires in_step { IsInStep control.old (T.shown outlet.old) }
     ensures ran { (run : Run) (place : Place) → IsAt run place control.old rounds.old (slots_of ⟦<BoxedFeed as Feed>⟧.left feeds.old.items)
-        → Shows run place control.old snapshot.old
+        → Shows run place control.old (T.shown outlet.old)
         → RanSteps run place (steps_in (length control.old.peers) line.now) result control.new rounds.new
         (slots_of ⟦<BoxedFeed as Feed>⟧.left feeds.new.items) (K.held out.old) (K.held out.new) }
     ensures shown { (run : Run) (place : Place) → IsAt run place control.old rounds.old (slots_of ⟦<BoxedFeed as Feed>⟧.left feeds.old.items)
-        → Shows run place control.old snapshot.old
+        → Shows run place control.old (T.shown outlet.old)
         → OnOk result (Shows run (place_after run.inputs (steps_in (length control.old.peers) line.now) place)
-        control.new snapshot.new) }
+        control.new (T.shown outlet.new)) }
+    ensures batches { (run : Run) (place : Place) → IsAt run place control.old rounds.old (slots_of ⟦<BoxedFeed as Feed>⟧.left feeds.old.items)
+        → HandedOn run place (steps_in (length control.old.peers) line.now) result (T.batches outlet.old) (T.batches outlet.new) }
+    ensures grows { Grows (T.batches outlet.old) (T.batches outlet.new) }
+    ensures sound { OnOk result (T.sound outlet.new) }
+    ensures in_step { OnOk result (IsInStep control.new (T.shown outlet.new)) }
     ensures names { IfErr result (NamesSession (length control.old.peers)) }
     ensures serves { (config : Settings) → Serves config control.old → Serves config control.new }
     ensures counts { CountsOn control.old control.new }
@@ -59,9 +69,9 @@ pub fn take_line<E: SetEngine, K: Sink>(
 {
     match line {
         BookLine::Pull { session, count } => pull_named(control, feeds, *session, *count, out),
-        BookLine::Publish => publish(control, snapshot, out),
+        BookLine::Publish => publish(control, outlet, aid, out),
         BookLine::Round => end_round(rounds, out),
-        BookLine::Check { iface, addr } => check(snapshot, *iface, addr, out),
+        BookLine::Check { iface, addr } => check(outlet.snapshot(), *iface, addr, out),
         BookLine::Change(edit) => change(control, edit),
         BookLine::Summary => summarize(control, out),
     }
@@ -85,6 +95,7 @@ fn pull_named<E: SetEngine, K: Sink>(
     ensures names { IfErr result (NamesSession (length control.old.peers)) }
     ensures serves { (config : Settings) → Serves config control.old → Serves config control.new }
     ensures published { KeepsPublished control.old control.new }
+    ensures kinds { control.new.kinds ≡ control.old.kinds }
     ensures counts { CountsOn control.old control.new }
     ensures feeds { CountEach ⟦<BoxedFeed as Feed>⟧.faults (λ s. result ≡ Err (RunFault.ReadFault s)) feeds.old.items feeds.new.items }
     ensures sink { CountsFault (result ≡ Err RunFault.WriteFault) (K.faults out.old) (K.faults out.new) }
@@ -111,6 +122,7 @@ fn pull_each<E: SetEngine, K: Sink>(
     ensures names { IfErr result (NamesSession (length control.old.peers)) }
     ensures serves { (config : Settings) → Serves config control.old → Serves config control.new }
     ensures published { KeepsPublished control.old control.new }
+    ensures kinds { control.new.kinds ≡ control.old.kinds }
     ensures counts { CountsOn control.old control.new }
     ensures feeds { CountEach ⟦<BoxedFeed as Feed>⟧.faults (λ s. result ≡ Err (RunFault.ReadFault s)) feeds.old.items feeds.new.items }
     ensures sink { CountsFault (result ≡ Err RunFault.WriteFault) (K.faults out.old) (K.faults out.new) }
@@ -141,6 +153,7 @@ fn pull<E: SetEngine, K: Sink>(
     ensures names { IfErr result (NamesSession (length control.old.peers)) }
     ensures serves { (config : Settings) → Serves config control.old → Serves config control.new }
     ensures published { KeepsPublished control.old control.new }
+    ensures kinds { control.new.kinds ≡ control.old.kinds }
     ensures edits { control.new.edits ≡ control.old.edits }
     ensures number { last_number control.new.marks ≡ last_number control.old.marks }
     ensures feeds { CountEach ⟦<BoxedFeed as Feed>⟧.faults (λ s. result ≡ Err (RunFault.ReadFault s)) feeds.old.items feeds.new.items }
@@ -149,20 +162,29 @@ fn pull<E: SetEngine, K: Sink>(
     control.pull(feeds, session, count, out)
 }
 
-/// Publishes: the snapshot takes the batch over, and the line of the publication is offered.
-fn publish<E: SetEngine, K: Sink>(
+/// Publishes: the outlet takes the batch over, and the line of the publication is offered.
+fn publish<E: SetEngine, A, T: Outlet<A>, K: Sink>(
     control: &mut Control<E>,
-    snapshot: &mut Snapshot,
+    outlet: &mut T,
+    aid: &A,
     out: &mut K,
 ) -> Result<(), RunFault>
     requires number { last_number control.old.marks < 2 ^ 32 }
     requires sessions { length control.old.peers ≤ 128 }
+    requires sound { T.sound outlet.old }
+    requires in_step { IsInStep control.old (T.shown outlet.old) }
     ensures ran { (run : Run) (place : Place) (rounds : ℕ) (slots : List Slot)
         → IsAt run place control.old rounds slots
         → RanStep run place steps.publish result control.new rounds slots (K.held out.old) (K.held out.new) }
     ensures shown { (opening : Opening) (edits : List Edit) (courses : List Course)
-        → ControlStandsFor opening edits courses control.old → IsShown opening edits control.old snapshot.old
-        → OnOk result (IsShown opening edits control.new snapshot.new) }
+        → ControlStandsFor opening edits courses control.old → IsShown opening edits control.old (T.shown outlet.old)
+        → OnOk result (IsShown opening edits control.new (T.shown outlet.new)) }
+    ensures batches { (run : Run) (place : Place) (rounds : ℕ) (slots : List Slot)
+        → IsAt run place control.old rounds slots
+        → HandedOn run place (steps.publish ∷ []) result (T.batches outlet.old) (T.batches outlet.new) }
+    ensures grows { Grows (T.batches outlet.old) (T.batches outlet.new) }
+    ensures sound { OnOk result (T.sound outlet.new) }
+    ensures in_step { OnOk result (IsInStep control.new (T.shown outlet.new)) }
     ensures err { IfErr result (NamesSession 0) }
     ensures serves { (config : Settings) → Serves config control.old → Serves config control.new }
     ensures edits { control.new.edits ≡ control.old.edits }
@@ -173,11 +195,12 @@ fn publish<E: SetEngine, K: Sink>(
         Ok(batch) => batch,
         Err(OutOfMemory) => return Err(RunFault::OutOfMemory),
     };
-    if let Err(OutOfMemory) = snapshot.absorb(&batch) {
+    let cells = cells_of(&batch);
+    if let Err(OutOfMemory) = outlet.take_over(aid, batch) {
         return Err(RunFault::OutOfMemory);
     }
     let mut text = Line::new();
-    put_last_mark(control.marks(), cells_of(&batch), &mut text);
+    put_last_mark(control.marks(), cells, &mut text);
     offer(&text, out)
 }
 
@@ -247,6 +270,7 @@ fn change<E: SetEngine>(control: &mut Control<E>, edit: &Edit) -> Result<(), Run
     ensures published { OnOk result (KeepsPublished control.old control.new) }
     ensures err { IfErr result (λ fault. fault ≡ RunFault.OutOfMemory) }
     ensures serves { (config : Settings) → Serves config control.old → Serves config control.new }
+    ensures names { map (λ row. row.0) control.new.kinds ≡ map (λ row. row.0) control.old.kinds }
     ensures edits { control.new.edits ≤ control.old.edits + 1 }
     ensures number { last_number control.new.marks ≡ last_number control.old.marks }
 {

@@ -8,11 +8,13 @@ use Rattle.control_core.specs.Controls.{IsOpened}
 use Rattle.control_core.proofs.Shown.{shown_opened}
 use Rattle.run_lines.specs.Inputs.{opening_of, pairs_in}
 use Rattle.run_lines.specs.Places.{opening}
+use Rattle.run_lines.specs.Publications.{IsInStep}
 use Rattle.run_lines.specs.RunText.{AreTotals, steps_for}
 use Rattle.run_lines.specs.Runs.{NamesSession, Shows, run_limits}
 use Rattle.run_lines.specs.Steps.{lines_in}
 use Rattle.run_lines.proofs.Emptied.{empties_none}
 use Rattle.run_lines.proofs.Heads.{run_none}
+use Rattle.run_lines.proofs.InStep.{opened_in_step}
 use Rattle.run_lines.proofs.RunOpened.{as_many}
 use Rattle.run_lines.proofs.run.run_book.Goals as goal
 
@@ -28,6 +30,12 @@ pub run_control-requires-clause-slots : goal.run_control-requires-clause-slots
 run_control-requires-clause-slots g c =
     c.requires.slots
     ∙ sym (as_many c.args.config.sessions c.in-Ok.opened.0.peers c.in-Ok.ensures.opened.stands.stand)
+
+pub run_control-requires-clause-in_step : goal.run_control-requires-clause-in_step
+run_control-requires-clause-in_step g c =
+    subst (IsInStep c.in-Ok.opened.0) (sym c.in-Ok.ensures.shown)
+    (opened_in_step (record { settings = c.args.config; pairs = pairs_in c.args.pairs.now }) run_limits
+    c.in-Ok.opened.0 c.in-Ok.ensures.opened)
 
 pub returns-clause-names : goal.returns-clause-names
 returns-clause-names g c =

@@ -15,6 +15,7 @@ loop-session-init g c = record {
       (g.K.Sink.held c.args.out.now) s;
   serves = λ config serves. serves;
   published = keeps_self c.args.control.now;
+  kinds = refl;
   peers = refl;
   edits = refl;
   number = refl;
@@ -59,6 +60,7 @@ loop-session-preserved g c =
       serves = λ config is. c.in_default.ensures.serves config (c.loop-session.invariant.serves config is);
       published = keeps_then c.args.control.now c.loop-session.control c.pull.new.control
           c.loop-session.invariant.published c.in_default.ensures.published;
+      kinds = c.in_default.ensures.kinds ∙ c.loop-session.invariant.kinds;
       peers = serves.sessions ∙ sym c.requires.serves.1.sessions;
       edits = c.in_default.ensures.edits ∙ c.loop-session.invariant.edits;
       number = c.in_default.ensures.number ∙ c.loop-session.invariant.number;

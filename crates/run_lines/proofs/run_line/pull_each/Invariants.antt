@@ -18,6 +18,7 @@ invariant-loop-session g l = record {
       (slots_of (λ b. (goal.Feed-dyn g (b.vtable, b.value)).left b.value) l.feeds.items) (g.K.Sink.held l.initial.out) (g.K.Sink.held l.out);
   serves : (config : Settings) → Serves config l.initial.control → Serves config l.control;
   published : KeepsPublished l.initial.control l.control;
+  kinds : l.control.kinds ≡ l.initial.control.kinds;
   peers : length l.control.peers ≡ length l.initial.control.peers;
   edits : l.control.edits ≡ l.initial.control.edits;
   number : last_number l.control.marks ≡ last_number l.initial.control.marks;

@@ -1,0 +1,5 @@
+pub mod Heads
+pub mod Progresses
+pub mod Records
+pub mod Runs
+pub mod Cuts

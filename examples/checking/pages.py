@@ -154,9 +154,16 @@ def check_rows(page, work):
         judge(f"{page}: {name}", tuple(wanted), run(words))
 
 
+def file_of(word):
+    """The file that a word names, if it names one."""
+    if word.startswith("mrt:"):
+        return word.removeprefix("mrt:").rpartition("@")[0]
+    return word.removeprefix("vrp:").removeprefix("irr:")
+
+
 def check_uses(page):
     """The page uses every file beside it, but for this script."""
-    words = [word.removeprefix("vrp:").removeprefix("irr:") for command in read_commands(page) for word in command[0]]
+    words = [file_of(word) for command in read_commands(page) for word in command[0]]
     words += [file for session in read_sessions(page) for file in session[:2]]
     for path in sorted(page.parent.iterdir()):
         if path.is_file() and path.name not in (page.name, "check"):

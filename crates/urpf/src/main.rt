@@ -1,10 +1,11 @@
-//! The program: makes the adapters over files and standard output, and the traces and generators
-//! that the words name, calls the command, and ends with its status.
+//! The program: makes the adapters over files and standard output, and the traces, generators and
+//! recordings that the words name, calls the command, and ends with its status.
 #![tactic(auto)]
 
 ghost use Rattle.std.specs.Prelude.{◌≡◌, IfOk};
 
 use feed_io::{BoxedFeed, FileSource, GenFeed, OutSink, TraceFeed, read_gen};
+use mrt_feed::{MrtFeed, read_mrt_word};
 use std::alloc::AllocError;
 use std::io::Write;
 use std::process::ExitCode;
@@ -71,9 +72,14 @@ fn run_book(
 ) -> Result<Status, AllocError> {
     let mut feeds: Vec<Option<BoxedFeed>> = Vec::new(rt.alloc());
     for word in feed_names(words).sessions {
-        let feed: BoxedFeed = match read_gen(word.as_bytes()) {
-            Some(spec) => Box::new(rt.alloc(), GenFeed::new(spec.seed, spec.count))?,
-            None => Box::new(rt.alloc(), TraceFeed::new(file(rt, word.as_str())?))?,
+        let feed: BoxedFeed = if let Some(spec) = read_gen(word.as_bytes()) {
+            Box::new(rt.alloc(), GenFeed::new(spec.seed, spec.count))?
+        } else if let Some(spec) = read_mrt_word(word.as_bytes()) {
+            // The word is cut behind a colon and before an at sign, so the name is there.
+            let name = word.as_str().get(spec.from..spec.to).unwrap_or("");
+            Box::new(rt.alloc(), MrtFeed::new(file(rt, name)?, spec.peer))?
+        } else {
+            Box::new(rt.alloc(), TraceFeed::new(file(rt, word.as_str())?))?
         };
         feeds.push(Some(feed))?;
     }

@@ -8,6 +8,10 @@ use Rattle.std.proofs.lemmas.Bool.{cases_lt}
 use Rattle.std.proofs.lemmas.Bool.Decides.{Decides-eqb}
 use Rattle.std.proofs.lemmas.List.Elements.{All-from_recursion, recursion_from_All}
 use Rattle.std.proofs.lemmas.Str.{IsUtf8-from_is_utf8, is_utf8-from_IsUtf8}
+use Rattle.feed_io.specs.GenWords.{SpellsGen}
+use Rattle.feed_io.specs.declared.gen_words.GenSpec.{GenSpec}
+use Rattle.mrt_feed.specs.Words.{SpellsMrt}
+use Rattle.mrt_feed.specs.declared.words.MrtSpec.{MrtSpec}
 use Rattle.toml.specs.Data.{Members}
 use Rattle.toml.specs.Data as toml
 use Rattle.toml.specs.Parse.{parse_document}
@@ -37,6 +41,7 @@ use Rattle.urpf_cli.specs.declared.words.TableForm.{TableForm}
 use Rattle.urpf_cli.specs.declared.words.TableForm.TheVariants.{Vrp, Irr}
 use Rattle.urpf_cli.proofs.Decisions.{both_or_not, decided, either_or_not, generator_or_not, implies_or_not, not_or, same_or_not}
 use Rattle.urpf_cli.proofs.Decisions.{turned}
+use Rattle.urpf_cli.proofs.RecordedWords.{recording_or_not}
 use Rattle.urpf_cli.proofs.TableLaws.{some_table}
 
 name_or_not : (word : List ℕ) → IsName word ⊎ (¬ (IsName word))
@@ -59,9 +64,19 @@ begins_or_not (c ∷ front) (x ∷ word) =
     rest : (x c : ℕ) (xs cs : List ℕ) → x ∷ xs ≡ c ∷ cs → xs ≡ cs
     rest x c xs cs is = cc
 
+abbrev Generates : List ℕ → Type 0
+Generates word = BeginsWith (codes "gen:") word → (spec : GenSpec) × SpellsGen word spec
+
+abbrev Records : List ℕ → Type 0
+Records word = BeginsWith (codes "mrt:") word → (spec : MrtSpec) × SpellsMrt word spec
+
 session_word_or_not : (word : List ℕ) → IsSessionWord word ⊎ (¬ (IsSessionWord word))
 session_word_or_not word =
-    both_or_not (name_or_not word) (implies_or_not (begins_or_not (codes "gen:") word) (generator_or_not word))
+    turned (λ (both : IsName word × (Generates word × Records word)). (both.0, both.1.0, both.1.1))
+    (λ fits. (fits.0, (fits.1, fits.2)))
+    (both_or_not (name_or_not word)
+    (both_or_not (implies_or_not (begins_or_not (codes "gen:") word) (generator_or_not word))
+    (implies_or_not (begins_or_not (codes "mrt:") word) (recording_or_not word))))
 
 each_or_not : (words : List (List ℕ)) → AllByRecursion IsSessionWord words ⊎ (¬ (AllByRecursion IsSessionWord words))
 each_or_not [] = inl tt

@@ -37,13 +37,13 @@ implies_or_not (inl p) (inl q) = inl (λ so. q)
 implies_or_not (inl p) (inr never) = inr (λ turn. never (turn p))
 
 -- a number up to a bound is so
-abbrev IsSome : (ℕ → Type 0) → ℕ → Type 0
+abbrev pub IsSome : (ℕ → Type 0) → ℕ → Type 0
 IsSome P most = (n : ℕ) × (n ≤ most) × P n
 
 last_or_less : (n most : ℕ) → n ≤ suc most → (n ≡ suc most) ⊎ (n ≤ most)
 last_or_less n most within = grind (arith, within)
 
-some_or_not : (P : ℕ → Type 0) → ((n : ℕ) → P n ⊎ (¬ (P n))) → (most : ℕ) → IsSome P most ⊎ (¬ (IsSome P most))
+pub some_or_not : (P : ℕ → Type 0) → ((n : ℕ) → P n ⊎ (¬ (P n))) → (most : ℕ) → IsSome P most ⊎ (¬ (IsSome P most))
 some_or_not P decide zero =
     turned (λ p. (zero, omega arith, p))
     (λ (one : IsSome P zero). let none : one.0 ≡ zero = omega (arith, one.1) in subst P none one.2) (decide zero)

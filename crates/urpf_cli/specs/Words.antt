@@ -5,6 +5,8 @@ use Rattle.urpf_base.specs.declared.address.Addr.{Addr}
 use Rattle.feed_io.specs.GenWords.{SpellsGen}
 use Rattle.feed_io.specs.declared.gen_words.GenSpec.{GenSpec}
 use Rattle.ip_text.specs.Texts.{SpellsAddr}
+use Rattle.mrt_feed.specs.Words.{SpellsMrt}
+use Rattle.mrt_feed.specs.declared.words.MrtSpec.{MrtSpec}
 use Rattle.urpf_cli.specs.declared.words.Command.{Command}
 use Rattle.urpf_cli.specs.declared.words.Command.TheVariants.{Check, Offline}
 use Rattle.urpf_cli.specs.declared.words.PairsWord.{PairsWord}
@@ -20,9 +22,12 @@ IsName word = ¬ (word ≡ []) × ¬ (word ≡ codes ":")
 abbrev pub BeginsWith : List ℕ → List ℕ → Type 0
 BeginsWith front word = (rest : List ℕ) × (word ≡ front ++ rest)
 
--- the word is that of a session: it names the file of a trace, and where it begins with `gen:` a generator
+-- the word is that of a session: it names the file of a trace, where it begins with `gen:` a generator, and where it
+-- begins with `mrt:` a recording and a peer
 abbrev pub IsSessionWord : List ℕ → Type 0
-IsSessionWord word = IsName word × (BeginsWith (codes "gen:") word → (spec : GenSpec) × SpellsGen word spec)
+IsSessionWord word =
+    IsName word × (BeginsWith (codes "gen:") word → (spec : GenSpec) × SpellsGen word spec)
+    × (BeginsWith (codes "mrt:") word → (spec : MrtSpec) × SpellsMrt word spec)
 
 -- where the pairs of a run come from: from nowhere, or from the table of this form and name
 pub data PairsFrom : Type 0 where

@@ -7,8 +7,9 @@
 //!
 //! SESSION, CONFIG and BOOK name files, and are neither empty nor `:`. SOURCE is an address. PAIRS is
 //! `none`, or `vrp:` or `irr:` and behind it the name of a file, which is not empty. Each S names a file
-//! in the same way, or is `gen:SEED:N` for a generator; no file is named by a word that begins with
-//! `gen:`. There may be no S.
+//! in the same way, or is `gen:SEED:N` for a generator, or `mrt:FILE@PEER` for the session with the
+//! peer of this address in a recording; a word that begins with `gen:` or `mrt:` is of that form. There
+//! may be no S.
 ghost use Rattle.std.specs.Prelude.{◌≡◌, ◌↔◌, ◌++◌, ℕ, List, [], IfNone, IfSome, IsSomeAnd, IsTrue, None, Some, map};
 ghost use Rattle.std.specs.Prelude.{string_bytes};
 ghost use Rattle.std.specs.List.{All};
@@ -18,6 +19,7 @@ ghost use Rattle.urpf_cli.specs.Words.{PairsFrom, Request, SaysPairs, pairs_from
 
 use feed_io::read_gen;
 use ip_text::read_addr;
+use mrt_feed::read_mrt_word;
 use urpf_base::Addr;
 
 /// What the words of a command line ask for, with the names that they lend.
@@ -28,8 +30,8 @@ pub enum Command<'a> {
         session: &'a str,
         source: Addr,
     },
-    /// Runs the runbook in this file, over the configuration in this file, these pairs, and the traces
-    /// in these files and the generators that these words name.
+    /// Runs the runbook in this file, over the configuration in this file, these pairs, and the traces,
+    /// generators and recordings that these words name.
     Offline {
         config: &'a str,
         book: &'a str,
@@ -166,7 +168,10 @@ fn offline_words(words: &[String]) -> Option<Command<'_>>
     if command.as_str() != "offline" {
         return None;
     }
-    if !is_name(config.as_str()) || !is_name(book.as_str()) || !are_session_words(sessions) {
+    if !is_name(config.as_str()) || !is_name(book.as_str()) {
+        return None;
+    }
+    if !are_session_words(sessions) {
         return None;
     }
     let Some(pairs) = read_pairs_word(pairs.as_str()) else {
@@ -227,14 +232,17 @@ fn are_session_words(words: &[String]) -> bool
     true
 }
 
-/// Whether the word is that of a session: it names a generator where it begins with `gen:`, and
-/// otherwise a file.
+/// Whether the word is that of a session: it names a generator where it begins with `gen:`, a
+/// recording and a peer where it begins with `mrt:`, and otherwise a file.
 fn is_session_word(word: &str) -> bool
     ensures { IsTrue result ↔ IsSessionWord word.now }
 {
     let octets = word.as_bytes();
     if octets.starts_with(b"gen:") {
         return read_gen(octets).is_some();
+    }
+    if octets.starts_with(b"mrt:") {
+        return read_mrt_word(octets).is_some();
     }
     is_name(word)
 }

@@ -1,6 +1,8 @@
-use Rattle.std.proofs.Common.{List, ℕ, ◌∷◌, ◌∙◌, ap, map, sym, drop, refl, rules}
+use Rattle.std.proofs.Common.{◌≡◌, List, ℕ, ◌∷◌, ◌∙◌, ap, map, sym, drop, refl, rules, subst}
 use Rattle.std.specs.Prelude.{codes, string_bytes}
-use Rattle.urpf_cli.specs.Words.{pairs_from}
+use Rattle.std.specs.List.{All}
+use Rattle.std.proofs.lemmas.List.{drop-map}
+use Rattle.urpf_cli.specs.Words.{IsSessionWord, pairs_from}
 use Rattle.urpf_cli.proofs.Lines.{four_items, not_unequal, rest_of}
 use Rattle.urpf_cli.proofs.Requests.{same_offline}
 use Rattle.urpf_cli.proofs.words.offline_words.Goals as goal
@@ -32,3 +34,13 @@ returns-clause-found c =
       },
       same_offline _ config _ book _ _ _ sessions c.as_str-4.ensures.value c.as_str-5.ensures.value refl rest,
     )
+
+pub returns-then-not-are_session_words-clause-only : goal.returns-then-not-are_session_words-clause-only
+returns-then-not-are_session_words-clause-only c = λ are.
+    let words = c.args.words.now in
+    let whole : map string_bytes (drop 4 words) ≡ are.sessions =
+    sym (drop-map string_bytes 4 words) ∙ ap (drop 4) are.parts in
+    let never = c.if-not-are_session_words.ensures.1
+    (subst (λ l. All IsSessionWord (map string_bytes l)) (sym (rest_of 4 words))
+    (subst (λ l. All IsSessionWord l) (sym whole) are.sessions_fit)) in
+    cc

@@ -1,6 +1,6 @@
 -- The lines of output. All of them are our own choice: fields parted by one space, numbers in decimal, a line feed at
 -- the end.
-use Rattle.std.specs.Prelude.{ℕ, Bool, if◌then◌else◌, List, ◌∷◌, ◌++◌, map, codes, decimal}
+use Rattle.std.specs.Prelude.{ℕ, Bool, if◌then◌else◌, List, ◌∷◌, ◌++◌, map, codes, decimal, Option, Some, None}
 use Rattle.std.specs.List.{concat}
 use Rattle.urpf_base.specs.declared.address.Addr.{Addr}
 use Rattle.urpf_base.specs.declared.verdicts.Verdict.{Verdict}
@@ -77,3 +77,15 @@ abbrev pub check_line : ℕ → Addr → Verdict → ℕ → List ℕ
 check_line iface addr verdict number =
     codes "check " ++ decimal iface ++ codes " " ++ addr_text addr ++ codes " " ++ verdict_text verdict ++ codes " "
     ++ decimal number ++ codes "\n"
+
+-- the source of a packet, and `-` where none can be read
+abbrev pub source_text : Option Addr → List ℕ
+source_text None = codes "-"
+source_text (Some addr) = addr_text addr
+
+-- the verdict on a packet: its worker, its place among the packets of the worker, from 1, the interface that it came in on,
+-- its source, and the publication of this number that it was checked against
+abbrev pub packet_line : ℕ → ℕ → ℕ → Option Addr → Verdict → ℕ → List ℕ
+packet_line worker place iface source verdict number =
+    codes "packet " ++ decimal worker ++ codes " " ++ decimal place ++ codes " " ++ decimal iface ++ codes " "
+    ++ source_text source ++ codes " " ++ verdict_text verdict ++ codes " " ++ decimal number ++ codes "\n"

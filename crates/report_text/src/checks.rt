@@ -41,7 +41,7 @@ pub fn put_check(iface: IfaceId, addr: &Addr, verdict: Verdict, number: u64, to:
 }
 
 /// What the verdict is called.
-fn put_verdict(verdict: Verdict, to: &mut Line)
+pub(crate) fn put_verdict(verdict: Verdict, to: &mut Line)
     requires { length to.old + 7 ≤ 8192 }
     ensures text { to.new ≡ to.old ++ verdict_text verdict }
     ensures short { length to.new ≤ length to.old + 7 }

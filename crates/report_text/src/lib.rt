@@ -4,7 +4,9 @@
 
 mod checks;
 mod fields;
+mod packets;
 mod runs;
 
 pub use checks::{put_check, put_one};
+pub use packets::put_packet;
 pub use runs::{put_done, put_end, put_mark, put_reset, put_round, put_run, put_summary};

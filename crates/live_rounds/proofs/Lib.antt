@@ -1,0 +1,5 @@
+pub mod Judging
+pub mod Working
+pub mod Writing
+pub mod Joining
+pub mod Ending

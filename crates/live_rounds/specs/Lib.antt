@@ -1,0 +1,5 @@
+pub mod Parts
+pub mod Rows
+pub mod Stations
+pub mod Rounds
+pub mod Seats

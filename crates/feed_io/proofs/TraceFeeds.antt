@@ -9,7 +9,7 @@ use Rattle.feed_io.specs.Traces.{head_length, head_event, piece_front, body_fron
 use Rattle.feed_io.specs.TraceFeeds.{events_left, Moves, Moved, Stops}
 use Rattle.feed_io.specs.declared.feeds.FeedEvent.{FeedEvent}
 use Rattle.feed_io.specs.declared.feeds.FeedEvent.TheVariants as given
-use Rattle.feed_io.specs.declared.limited.TheConstants.{TRACE_OCTETS}
+use Rattle.feed_io.specs.declared.limited.TheConstants.{FILE_OCTETS}
 use Rattle.feed_io.specs.declared.trace_head.HeadEvent.{HeadEvent}
 use Rattle.feed_io.specs.declared.trace_head.HeadEvent.TheVariants.{Octets}
 use Rattle.feed_io.proofs.Fronts.{front_whole, events_found, owed_events}
@@ -24,13 +24,13 @@ trace_same {text} {held} {rest} {now} m =
 
 -- and so is what of it may still be read
 pub seen_same : {text held rest now : List ℕ} {taken count : ℕ} → Moves text taken held rest count now
-    → held ++ take (TRACE_OCTETS - taken) text ≡ now ++ take (TRACE_OCTETS - count) rest
+    → held ++ take (FILE_OCTETS - taken) text ≡ now ++ take (FILE_OCTETS - count) rest
 seen_same {text} {held} {rest} {now} {taken} {count} m =
-    ap (λ t. held ++ take (TRACE_OCTETS - taken) t) m.parts
+    ap (λ t. held ++ take (FILE_OCTETS - taken) t) m.parts
     ∙ ap (λ k. held ++ take k (m.piece ++ rest)) (omega (arith, m.counted, m.within))
-    ∙ ap (λ t. held ++ t) (take-append-add m.piece rest (TRACE_OCTETS - count))
-    ∙ sym (append_assoc held m.piece (take (TRACE_OCTETS - count) rest))
-    ∙ ap (λ h. h ++ take (TRACE_OCTETS - count) rest) (sym m.joined)
+    ∙ ap (λ t. held ++ t) (take-append-add m.piece rest (FILE_OCTETS - count))
+    ∙ sym (append_assoc held m.piece (take (FILE_OCTETS - count) rest))
+    ∙ ap (λ h. h ++ take (FILE_OCTETS - count) rest) (sym m.joined)
 
 -- ---- where it does not stop
 
@@ -39,7 +39,7 @@ none_is_not x o some none = absurd cc
 
 found_goes_on : {text held rest now : List ℕ} {taken count : ℕ} → Moves text taken held rest count now
     → (e f : Event × List ℕ)
-    → event_front (now ++ rest) ≡ Some e → event_front (now ++ take (TRACE_OCTETS - count) rest) ≡ Some f
+    → event_front (now ++ rest) ≡ Some e → event_front (now ++ take (FILE_OCTETS - count) rest) ≡ Some f
     → Stops taken held text → false ≡ true
 found_goes_on m e f whole seen (inl off) = absurd (none_is_not e _ (ap event_front (trace_same m) ∙ whole) off.none)
 found_goes_on m e f whole seen (inr more) = absurd (none_is_not f _ (ap event_front (seen_same m) ∙ seen) more.none)
@@ -52,7 +52,7 @@ pub goes_on : (kind : HeadEvent) (e : Event) → ((text : List ℕ) → body_fro
 goes_on kind e finds None new taken count held now moved whole says = tt
 goes_on kind e finds (Some text) None taken count held now moved whole says = absurd moved
 goes_on kind e finds (Some text) (Some rest) taken count held now m whole says =
-    let seen = take (TRACE_OCTETS - count) rest in
+    let seen = take (FILE_OCTETS - count) rest in
     found_goes_on m (e, rest) (e, seen) (front_whole now rest whole ∙ ap (λ s. body_front s rest) says ∙ finds rest)
     (front_whole now seen whole ∙ ap (λ s. body_front s seen) says ∙ finds seen)
 
@@ -65,18 +65,18 @@ piece_found n (b ∷ text) some = refl
 -- the head says octets, one of them is there, and it may be read
 pub piece_goes_on : (old mid new : Option (List ℕ)) (taken count n : ℕ) (held now piece : List ℕ)
     → Moved old taken held mid count now → length now ≡ head_length now → head_event now ≡ Octets n
-    → Consumes mid new piece → 0 < length piece → count < TRACE_OCTETS
+    → Consumes mid new piece → 0 < length piece → count < FILE_OCTETS
     → IfSome old (λ text. Stops taken held text → false ≡ true)
 piece_goes_on None mid new taken count n held now piece moved whole says consumed some room = tt
 piece_goes_on (Some text) None new taken count n held now piece moved whole says consumed some room = absurd moved
 piece_goes_on (Some text) (Some mid) None taken count n held now piece m whole says consumed some room = absurd consumed
 piece_goes_on (Some text) (Some mid) (Some rest) taken count n held now piece m whole says consumed some room =
-    let seen = take (TRACE_OCTETS - count) mid in
+    let seen = take (FILE_OCTETS - count) mid in
     let long : 0 < length mid = omega (arith, some, ap length consumed, length-append piece rest) in
     found_goes_on m (octets (take n mid), drop n mid) (octets (take n seen), drop n seen)
     (front_whole now mid whole ∙ ap (λ s. body_front s mid) says ∙ piece_found n mid long)
     (front_whole now seen whole ∙ ap (λ s. body_front s seen) says
-    ∙ piece_found n seen (omega (arith, long, room, length-take (TRACE_OCTETS - count) mid)))
+    ∙ piece_found n seen (omega (arith, long, room, length-take (FILE_OCTETS - count) mid)))
 
 -- ---- what it gives
 

@@ -4,7 +4,7 @@ use Rattle.std.specs.Coded.{Coded, code_by, coded×, coded_list, coded_ℕ, code
 use Rattle.std.specs.Option.{option_map}
 use Rattle.feed_io.specs.Events.{Event}
 use Rattle.feed_io.specs.Traces.{event_front, trace_events, IsMalformed}
-use Rattle.feed_io.specs.declared.limited.TheConstants.{TRACE_OCTETS}
+use Rattle.feed_io.specs.declared.limited.TheConstants.{FILE_OCTETS}
 
 -- a source, how many of its octets were read, those of the next event's head, whether a call failed, and how many did
 pub record TraceState (S : Type 0) : Type 0 where
@@ -34,7 +34,7 @@ pub record Moves (text : List ℕ) (taken : ℕ) (held rest : List ℕ) (count :
   pub parts : text ≡ piece ++ rest
   pub joined : now ≡ held ++ piece
   pub counted : count ≡ taken + length piece
-  pub within : length piece ≤ TRACE_OCTETS - taken
+  pub within : length piece ≤ FILE_OCTETS - taken
 
 -- the same of a source, where it tells what is left
 abbrev pub Moved : Option (List ℕ) → ℕ → List ℕ → Option (List ℕ) → ℕ → List ℕ → Type 0
@@ -50,8 +50,8 @@ KeepsCount (Some text) taken (Some rest) count = count + length rest ≡ taken +
 
 -- there is no event in the octets that may still be read, and the text goes on up to there at least
 pub record NeedsMore (taken : ℕ) (held text : List ℕ) : Type 0 where
-  pub beyond : TRACE_OCTETS - taken ≤ length text
-  pub none : event_front (held ++ take (TRACE_OCTETS - taken) text) ≡ None
+  pub beyond : FILE_OCTETS - taken ≤ length text
+  pub none : event_front (held ++ take (FILE_OCTETS - taken) text) ≡ None
 
 -- no event can be given: the trace is off its format here, or more octets are needed than may be read
 abbrev pub Stops : ℕ → List ℕ → List ℕ → Type 0

@@ -8,7 +8,7 @@ ghost use Rattle.feed_io.specs.Generated as spec;
 ghost use Rattle.feed_io.specs.Generated.{generated_events};
 
 use crate::feeds::{Feed, FeedEvent};
-use crate::message_buffer::{Message, Unsent};
+use crate::few_octets::{FewOctets, Unsent};
 use crate::messages::{block_count, block_update, keepalive, opening};
 use std::marker::Model;
 use urpf_base::Failed;
@@ -49,7 +49,7 @@ impl GenFeed {
         GenFeed {
             seed,
             count,
-            unsent: Unsent::new(Message::new()),
+            unsent: Unsent::new(FewOctets::new()),
             begun: 0,
         }
     }
@@ -86,7 +86,7 @@ impl Feed for GenFeed {
 }
 
 /// The message of this number, counted from 0: the OPEN, the KEEPALIVE, or an UPDATE.
-fn message(seed: u32, count: u32, number: u32) -> Message
+fn message(seed: u32, count: u32, number: u32) -> FewOctets
     requires within { count ≤ 4000000 }
     requires some { number < 2 + spec.block_count count }
     ensures some { 0 < length result }

@@ -7,7 +7,7 @@ ghost use Rattle.feed_io.specs.Packets.{BeginsWith, PacketRecord, SpellsRecord, 
 ghost use Rattle.feed_io.specs.Spelling.{SpellsEvent, SpellsPiece};
 ghost use Rattle.feed_io.specs.Traces.{event_front, trace_events};
 
-use crate::limited::TRACE_OCTETS;
+use crate::limited::FILE_OCTETS;
 use crate::messages::{
     AS_PATH, AS_SEQUENCE, CAPABILITIES, FOUR_OCTET_AS, KEEPALIVE, NEXT_HOP, OPEN, ORIGIN, SPEAKER,
     UPDATE,
@@ -15,13 +15,13 @@ use crate::messages::{
 use crate::packet_source::{MARKER, PACKET};
 use crate::trace_head::{DOWN, ELAPSED, OCTETS, UP};
 
-/// The first octets of events and of packet records have these numbers, and the limit of a trace is 4 TiB. The messages
+/// The first octets of events and of packet records have these numbers, and of a file at most 4 TiB are read. The messages
 /// of the generator have the numbers of RFC 4271, sections 4.1 and 4.3, RFC 5492, section 4, and
 /// RFC 6793, section 3. Definitions cite them by name.
 pub fn assigned_numbers()
     ensures codes { (UP ≡ 1) × (OCTETS ≡ 2) × (DOWN ≡ 3) × (ELAPSED ≡ 4) }
     ensures records { (PACKET ≡ 1) × (MARKER ≡ 2) }
-    ensures limit { TRACE_OCTETS ≡ 4398046511104 }
+    ensures limit { FILE_OCTETS ≡ 4398046511104 }
     ensures messages { (OPEN ≡ 1) × (UPDATE ≡ 2) × (KEEPALIVE ≡ 4) }
     ensures capability { (CAPABILITIES ≡ 2) × (FOUR_OCTET_AS ≡ 65) }
     ensures attributes { (ORIGIN ≡ 1) × (AS_PATH ≡ 2) × (NEXT_HOP ≡ 3) × (AS_SEQUENCE ≡ 2) }

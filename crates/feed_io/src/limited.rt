@@ -7,8 +7,8 @@ ghost use Rattle.feed_io.specs.declared.limited.TheConstants as limit;
 
 use urpf_base::{Failed, Source};
 
-/// The most octets that are read of one trace.
-pub const TRACE_OCTETS: usize = 4_398_046_511_104;
+/// The most octets that are read of one file: of a trace, a recording or a capture.
+pub const FILE_OCTETS: usize = 4_398_046_511_104;
 
 /// A source, and how many of its octets were read.
 #[derive(Drop)]
@@ -36,13 +36,13 @@ impl<S: Source + Drop> Limited<S> {
         ensures once { S.faults self.new.source ≤ S.faults self.old.source + 1 }
         ensures same { OnOk result (S.faults self.new.source ≡ S.faults self.old.source) }
         ensures taken { IfOk result (λ n. self.new.taken ≡ self.old.taken + n) }
-        ensures within { OnOk result (self.new.taken ≤ limit.TRACE_OCTETS) }
-        ensures more { OnOk result (self.old.taken < limit.TRACE_OCTETS) }
+        ensures within { OnOk result (self.new.taken ≤ limit.FILE_OCTETS) }
+        ensures more { OnOk result (self.old.taken < limit.FILE_OCTETS) }
         ensures failed { OnErr result (Rose (S.faults self.old.source) (S.faults self.new.source)
-            ⊎ (limit.TRACE_OCTETS ≤ self.old.taken)) }
+            ⊎ (limit.FILE_OCTETS ≤ self.old.taken)) }
         ensures kept { OnErr result (self.new.taken ≡ self.old.taken) }
     {
-        let room = TRACE_OCTETS.saturating_sub(self.taken);
+        let room = FILE_OCTETS.saturating_sub(self.taken);
         if room == 0 {
             return Err(Failed);
         }

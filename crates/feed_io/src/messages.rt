@@ -16,7 +16,7 @@ ghost use Rattle.std.specs.List.{flat_map, range_with_len};
 ghost use Rattle.byteorder.specs.Endian.{big_bytes};
 ghost use Rattle.feed_io.specs.Generated as spec;
 
-use crate::message_buffer::Message;
+use crate::few_octets::FewOctets;
 
 /// The type of an OPEN (RFC 4271, section 4.1).
 pub const OPEN: u8 = 1;
@@ -61,7 +61,7 @@ pub fn block_count(count: u32) -> u32
 
 /// The OPEN: version 4, AS 64499, no hold timer, the identifier 192.0.2.9, and the capability of
 /// four-octet AS numbers.
-pub fn opening() -> Message
+pub fn opening() -> FewOctets
     ensures { result ≡ spec.opening }
 {
     let mut message = header(37, OPEN);
@@ -71,14 +71,14 @@ pub fn opening() -> Message
 }
 
 /// The KEEPALIVE.
-pub fn keepalive() -> Message
+pub fn keepalive() -> FewOctets
     ensures { result ≡ spec.keepalive }
 {
     header(19, KEEPALIVE)
 }
 
 /// The UPDATE of this block, counted from 0, which has a prefix.
-pub fn block_update(seed: u32, count: u32, block: u32) -> Message
+pub fn block_update(seed: u32, count: u32, block: u32) -> FewOctets
     requires within { count ≤ 4000000 }
     requires some { 8 * block < count }
     ensures { result ≡ spec.block_update seed count block }
@@ -99,18 +99,18 @@ fn block_origin(seed: u32, block: u32) -> u32
 }
 
 /// The header of a message of this length and type.
-fn header(length: u16, kind: u8) -> Message
+fn header(length: u16, kind: u8) -> FewOctets
     ensures { result ≡ replicate 16 255 ++ (big_bytes 2 length ++ (kind ∷ [])) }
 {
     let [high, low] = length.to_be_bytes();
-    let mut message = Message::new();
+    let mut message = FewOctets::new();
     message.append(&[0xFF; 16]);
     message.append(&[high, low, kind]);
     message
 }
 
 /// Appends that nothing is withdrawn, and the attributes with their length.
-fn append_attributes(message: &mut Message, origin: u32)
+fn append_attributes(message: &mut FewOctets, origin: u32)
     requires { length message.old ≡ 19 }
     ensures { message.new ≡ message.old ++ (spec.sized [] ++ spec.sized (spec.attributes origin)) }
 {
@@ -123,7 +123,7 @@ fn append_attributes(message: &mut Message, origin: u32)
 }
 
 /// Appends so many prefixes, from the one of this number on. The octets of prefix 0 are 1, 0 and 0.
-fn append_prefixes(message: &mut Message, first: u32, count: u32)
+fn append_prefixes(message: &mut FewOctets, first: u32, count: u32)
     requires room { length message.old ≡ 47 }
     requires count { count ≤ 8 }
     requires within { first ≤ 4000000 }

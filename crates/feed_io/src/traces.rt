@@ -174,9 +174,9 @@ fn fill<S: Source + Drop>(input: &mut Limited<S>, head: &mut Head) -> Result<boo
     ensures whole { result ≡ Ok true → length head.new ≡ head_length head.new }
     ensures short { result ≡ Ok false → length head.new < head_length head.new }
     ensures ended { result ≡ Ok false → IsAtEnd (S.left input.new.source) }
-    ensures within { result ≡ Ok false → input.new.taken < limit.TRACE_OCTETS }
+    ensures within { result ≡ Ok false → input.new.taken < limit.FILE_OCTETS }
     ensures failed { OnErr result (Rose (S.faults input.old.source) (S.faults input.new.source)
-        ⊎ ((limit.TRACE_OCTETS ≤ input.new.taken) × (length head.new < head_length head.new))) }
+        ⊎ ((limit.FILE_OCTETS ≤ input.new.taken) × (length head.new < head_length head.new))) }
 {
     let mut piece = [0u8; HEAD_OCTETS];
     loop {
@@ -202,7 +202,7 @@ fn read_piece<S: Source + Drop>(
     requires some { 0 < count }
     ensures bound { IfOk result (λ n. (1 ≤ n) × (n ≤ length buf.new) × (n ≤ count)) }
     ensures octets { IfOk result (λ n. Consumes (S.left input.old.source) (S.left input.new.source) (take n buf.new)) }
-    ensures more { OnOk result (input.old.taken < limit.TRACE_OCTETS) }
+    ensures more { OnOk result (input.old.taken < limit.FILE_OCTETS) }
     ensures taken { IfOk result (λ n. input.new.taken ≡ input.old.taken + n) }
     ensures rest { OnErr result (Keeps (S.left input.old.source) (S.left input.new.source)) }
     ensures grows { input.old.taken ≤ input.new.taken }
@@ -210,7 +210,7 @@ fn read_piece<S: Source + Drop>(
     ensures once { S.faults input.new.source ≤ S.faults input.old.source + 1 }
     ensures kept { OnOk result (S.faults input.new.source ≡ S.faults input.old.source) }
     ensures failed { OnErr result (Rose (S.faults input.old.source) (S.faults input.new.source)
-        ⊎ ((limit.TRACE_OCTETS ≤ input.old.taken) ⊎ IsAtEnd (S.left input.new.source))) }
+        ⊎ ((limit.FILE_OCTETS ≤ input.old.taken) ⊎ IsAtEnd (S.left input.new.source))) }
 {
     let want = count.min(buf.len());
     let given = input.read(&mut buf[..want])?;

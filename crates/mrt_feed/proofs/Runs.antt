@@ -18,7 +18,7 @@ use Rattle.mrt_feed.specs.MrtFeeds.{events_left}
 use Rattle.mrt_feed.specs.Places.{past, place_events, is_whole, ends_whole, Goes, Reads, Ran, IsBetween, IsAtRecord, IsEnded}
 use Rattle.mrt_feed.specs.Places.{IsOff, Stops, Halts}
 use Rattle.mrt_feed.specs.Records.{head_length, IsHead}
-use Rattle.mrt_feed.specs.declared.input.TheConstants.{RECORDING_OCTETS}
+use Rattle.feed_io.specs.declared.limited.TheConstants.{FILE_OCTETS}
 use Rattle.mrt_feed.specs.declared.progress.Progress.{Progress}
 use Rattle.mrt_feed.proofs.Heads.{head_length-low, head_stays}
 use Rattle.mrt_feed.proofs.Records.{short_records, short_rest}
@@ -77,7 +77,7 @@ ran_kept peer (Some text) (Some rest) i j a keeps same =
 
 -- a piece is read
 pub ran_read : (peer : Addr) (l m : Option (List ℕ)) (i j : ℕ) (a b : Progress) (piece : List ℕ) (given : List Event)
-    → Consumes l m piece → j ≡ i + length piece → j ≤ RECORDING_OCTETS → Goes peer a piece b given
+    → Consumes l m piece → j ≡ i + length piece → j ≤ FILE_OCTETS → Goes peer a piece b given
     → Ran peer l i a m j b given
 ran_read peer None m i j a b piece given consumed counted within goes = tt
 ran_read peer (Some text) None i j a b piece given consumed counted within goes = absurd consumed
@@ -202,7 +202,7 @@ skip_halts peer p (Some rest) j at some ended =
     inl (subst (λ t. IsOff peer p t) (sym ended) (skip_off peer p at some))
 
 pub skip_limited : (peer : Addr) (p : Progress) (m : Option (List ℕ)) (j : ℕ) → IsBetween p → 0 < p.skip
-    → RECORDING_OCTETS ≤ j → IfSome m (Halts peer p j)
+    → FILE_OCTETS ≤ j → IfSome m (Halts peer p j)
 skip_limited peer p None j at some limit = tt
 skip_limited peer p (Some rest) j at some limit = inr (limit, skip_none peer p at some)
 
@@ -214,13 +214,13 @@ head_halts peer p (Some rest) j at short some ended =
     inl (subst (λ t. IsOff peer p t) (sym ended) (head_off peer p at short some))
 
 pub head_limited : (peer : Addr) (p : Progress) (m : Option (List ℕ)) (j : ℕ) → IsAtRecord p
-    → length p.head < head_length p.head → RECORDING_OCTETS ≤ j → IfSome m (Halts peer p j)
+    → length p.head < head_length p.head → FILE_OCTETS ≤ j → IfSome m (Halts peer p j)
 head_limited peer p None j at short limit = tt
 head_limited peer p (Some rest) j at short limit = inr (limit, head_none peer p at short)
 
 -- a piece that is passed over cannot be read
 pub skip_stops : {A : Type 0} (p : Progress) (m : Option (List ℕ)) (i j : ℕ) → j ≡ i → IsBetween p → 0 < p.skip
-    → A ⊎ ((RECORDING_OCTETS ≤ i) ⊎ IsAtEnd m) → A ⊎ ((peer : Addr) → IfSome m (Halts peer p j))
+    → A ⊎ ((FILE_OCTETS ≤ i) ⊎ IsAtEnd m) → A ⊎ ((peer : Addr) → IfSome m (Halts peer p j))
 skip_stops p m i j same at some (inl rose) = inl rose
 skip_stops p m i j same at some (inr (inl limit)) =
     inr (λ peer. skip_limited peer p m j at some (omega (arith, same, limit)))
@@ -228,7 +228,7 @@ skip_stops p m i j same at some (inr (inr ended)) = inr (λ peer. skip_halts pee
 
 -- a piece of a head cannot be read
 pub head_stops : {A : Type 0} (p : Progress) (m : Option (List ℕ)) (i j : ℕ) → j ≡ i → IsAtRecord p
-    → length p.head < head_length p.head → A ⊎ (RECORDING_OCTETS ≤ i) → A ⊎ ((peer : Addr) → IfSome m (Halts peer p j))
+    → length p.head < head_length p.head → A ⊎ (FILE_OCTETS ≤ i) → A ⊎ ((peer : Addr) → IfSome m (Halts peer p j))
 head_stops p m i j same at short (inl rose) = inl rose
 head_stops p m i j same at short (inr limit) =
     inr (λ peer. head_limited peer p m j at short (omega (arith, same, limit)))
@@ -248,11 +248,11 @@ halt_stops peer a b text rest piece i j reads goes (inl off) = inl (record {
   off = ap (ends_whole a) reads.parts ∙ goes.whole rest ∙ off.off;
 })
 halt_stops peer a b text rest piece i j reads goes (inr halt) =
-    let all : RECORDING_OCTETS - i ≡ length piece + 0 = omega (arith, reads.within, reads.counted, halt.0) in
+    let all : FILE_OCTETS - i ≡ length piece + 0 = omega (arith, reads.within, reads.counted, halt.0) in
     inr (record {
       beyond = omega (arith, all, ap length reads.parts, length-append piece rest);
       none =
-          ap (λ t. place_events peer a (take (RECORDING_OCTETS - i) t)) reads.parts
+          ap (λ t. place_events peer a (take (FILE_OCTETS - i) t)) reads.parts
           ∙ ap (λ k. place_events peer a (take k (piece ++ rest))) all
           ∙ ap (place_events peer a) (take-append-add piece rest 0) ∙ goes.events [] ∙ halt.1;
     })
@@ -278,12 +278,12 @@ later_stops peer l m i j a b ran (inr halts) = inr (halts_stop peer l m i j a b 
 
 -- the limit, before a message's octets
 owed_limited : (peer : Addr) (p : Progress) (l : Option (List ℕ)) (i : ℕ) → p.unsent ≡ [] → 0 < p.owed
-    → RECORDING_OCTETS ≤ i → IfSome l (Stops peer p i)
+    → FILE_OCTETS ≤ i → IfSome l (Stops peer p i)
 owed_limited peer p None i unsent some limit = tt
 owed_limited peer p (Some text) i unsent some limit = inr (record {
   beyond = omega (arith, limit);
   none =
-      let none : RECORDING_OCTETS - i ≡ 0 = omega (arith, limit) in
+      let none : FILE_OCTETS - i ≡ 0 = omega (arith, limit) in
       ap (λ k. place_events peer p (take k text)) none ∙ owed_none peer p unsent some;
 })
 
@@ -296,7 +296,7 @@ owed_ended peer p (Some text) (Some rest) i unsent some keeps ended =
     inl (subst (λ t. IsOff peer p t) (sym ended ∙ keeps) (owed_off peer p unsent some))
 
 pub owed_stops : {A : Type 0} (peer : Addr) (p : Progress) (l m : Option (List ℕ)) (i : ℕ) → p.unsent ≡ []
-    → 0 < p.owed → Keeps l m → A ⊎ ((RECORDING_OCTETS ≤ i) ⊎ IsAtEnd m) → A ⊎ IfSome l (Stops peer p i)
+    → 0 < p.owed → Keeps l m → A ⊎ ((FILE_OCTETS ≤ i) ⊎ IsAtEnd m) → A ⊎ IfSome l (Stops peer p i)
 owed_stops peer p l m i unsent some keeps (inl rose) = inl rose
 owed_stops peer p l m i unsent some keeps (inr (inl limit)) = inr (owed_limited peer p l i unsent some limit)
 owed_stops peer p l m i unsent some keeps (inr (inr ended)) = inr (owed_ended peer p l m i unsent some keeps ended)
@@ -414,26 +414,26 @@ one_is_none e es none = absurd cc
 
 -- a text and what of it may be read both give
 gives_both : (peer : Addr) (a : Progress) (text : List ℕ) (i : ℕ) (e f : Event) (es fs : List Event)
-    → place_events peer a text ≡ e ∷ es → place_events peer a (take (RECORDING_OCTETS - i) text) ≡ f ∷ fs
+    → place_events peer a text ≡ e ∷ es → place_events peer a (take (FILE_OCTETS - i) text) ≡ f ∷ fs
     → Stops peer a i text → false ≡ true
 gives_both peer a text i e f es fs whole seen (inl off) = absurd (one_is_none e es (sym whole ∙ off.none))
 gives_both peer a text i e f es fs whole seen (inr more) = absurd (one_is_none f fs (sym seen ∙ more.none))
 
 -- what may be read behind a piece
 seen_front : (text rest piece : List ℕ) (i j : ℕ) → Reads text i piece rest j
-    → take (RECORDING_OCTETS - i) text ≡ piece ++ take (RECORDING_OCTETS - j) rest
+    → take (FILE_OCTETS - i) text ≡ piece ++ take (FILE_OCTETS - j) rest
 seen_front text rest piece i j reads =
-    let sum : RECORDING_OCTETS - i ≡ length piece + (RECORDING_OCTETS - j) =
+    let sum : FILE_OCTETS - i ≡ length piece + (FILE_OCTETS - j) =
     omega (arith, reads.within, reads.counted) in
-    ap (take (RECORDING_OCTETS - i)) reads.parts ∙ ap (λ k. take k (piece ++ rest)) sum
-    ∙ take-append-add piece rest (RECORDING_OCTETS - j)
+    ap (take (FILE_OCTETS - i)) reads.parts ∙ ap (λ k. take k (piece ++ rest)) sum
+    ∙ take-append-add piece rest (FILE_OCTETS - j)
 
 pub event_goes_on : (peer : Addr) (l m : Option (List ℕ)) (i j : ℕ) (a b : Progress) (e : Event)
     → Ran peer l i a m j b (e ∷ []) → IfSome l (λ text. Stops peer a i text → false ≡ true)
 event_goes_on peer None m i j a b e ran = tt
 event_goes_on peer (Some text) None i j a b e ran = absurd ran
 event_goes_on peer (Some text) (Some rest) i j a b e ran =
-    let seen = take (RECORDING_OCTETS - j) rest in
+    let seen = take (FILE_OCTETS - j) rest in
     gives_both peer a text i e e (place_events peer b rest) (place_events peer b seen)
     (ap (place_events peer a) ran.1.parts ∙ ran.2.events rest)
     (ap (place_events peer a) (seen_front text rest ran.0 i j ran.1) ∙ ran.2.events seen)
@@ -451,7 +451,7 @@ pub memory_goes_on : (peer : Addr) (l m : Option (List ℕ)) (i j : ℕ) (a b : 
 memory_goes_on peer None m i j a b ran some = tt
 memory_goes_on peer (Some text) None i j a b ran some = absurd ran
 memory_goes_on peer (Some text) (Some rest) i j a b ran some =
-    let seen = take (RECORDING_OCTETS - j) rest in
+    let seen = take (FILE_OCTETS - j) rest in
     gives_both peer a text i _ _ _ _
     (ap (place_events peer a) ran.1.parts ∙ ran.2.events rest ∙ memory_gives peer b rest some)
     (ap (place_events peer a) (seen_front text rest ran.0 i j ran.1) ∙ ran.2.events seen
@@ -466,15 +466,15 @@ owed_gives peer p t unsent some there =
     ∙ with_more-some (take p.owed t) later (omega (arith, some, there, length-take p.owed t))
 
 pub owed_goes_on : (peer : Addr) (l m : Option (List ℕ)) (i : ℕ) (p : Progress) (piece : List ℕ)
-    → p.unsent ≡ [] → 0 < p.owed → Consumes l m piece → 0 < length piece → i < RECORDING_OCTETS
+    → p.unsent ≡ [] → 0 < p.owed → Consumes l m piece → 0 < length piece → i < FILE_OCTETS
     → IfSome l (λ text. Stops peer p i text → false ≡ true)
 owed_goes_on peer None m i p piece unsent some consumed there room = tt
 owed_goes_on peer (Some text) None i p piece unsent some consumed there room = absurd consumed
 owed_goes_on peer (Some text) (Some rest) i p piece unsent some consumed there room =
-    let seen = take (RECORDING_OCTETS - i) text in
+    let seen = take (FILE_OCTETS - i) text in
     let long : 0 < length text = omega (arith, there, ap length consumed, length-append piece rest) in
     gives_both peer p text i _ _ _ _ (owed_gives peer p text unsent some long)
-    (owed_gives peer p seen unsent some (omega (arith, long, room, length-take (RECORDING_OCTETS - i) text)))
+    (owed_gives peer p seen unsent some (omega (arith, long, room, length-take (FILE_OCTETS - i) text)))
 
 -- the end of a recording is no stop
 ended_by : (peer : Addr) (a b : Progress) (text rest piece : List ℕ) (i j : ℕ) → Reads text i piece rest j

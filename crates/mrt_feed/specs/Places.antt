@@ -6,7 +6,7 @@ use Rattle.urpf_base.specs.declared.address.Addr.{Addr}
 use Rattle.feed_io.specs.Events.{Event, up, down, with_more}
 use Rattle.mrt_feed.specs.MrtEvents.{events_from}
 use Rattle.mrt_feed.specs.Records.{rest_in}
-use Rattle.mrt_feed.specs.declared.input.TheConstants.{RECORDING_OCTETS}
+use Rattle.feed_io.specs.declared.limited.TheConstants.{FILE_OCTETS}
 use Rattle.mrt_feed.specs.declared.progress.Due.{Due}
 use Rattle.mrt_feed.specs.declared.progress.Due.TheVariants.{Up, Down, Octets}
 use Rattle.mrt_feed.specs.declared.progress.Progress.{Progress}
@@ -38,7 +38,7 @@ pub record Goes (peer : Addr) (old : Progress) (piece : List ℕ) (new : Progres
 pub record Reads (text : List ℕ) (taken : ℕ) (piece rest : List ℕ) (count : ℕ) : Type 0 where
   pub parts : text ≡ piece ++ rest
   pub counted : count ≡ taken + length piece
-  pub within : length piece ≤ RECORDING_OCTETS - taken
+  pub within : length piece ≤ FILE_OCTETS - taken
 
 -- the same of a source, where it tells what is left
 abbrev pub Ran : Addr → Option (List ℕ) → ℕ → Progress → Option (List ℕ) → ℕ → Progress → List Event → Type 0
@@ -75,7 +75,7 @@ pub record IsEnded (place : Progress) (taken : ℕ) (left : Option (List ℕ)) :
   pub head : place.head ≡ []
   pub start : IsAtRecord place
   pub at_end : IsAtEnd left
-  pub within : taken < RECORDING_OCTETS
+  pub within : taken < FILE_OCTETS
 
 -- no event is left, and the recording does not end with a whole record
 pub record IsOff (peer : Addr) (place : Progress) (text : List ℕ) : Type 0 where
@@ -84,8 +84,8 @@ pub record IsOff (peer : Addr) (place : Progress) (text : List ℕ) : Type 0 whe
 
 -- there is no event in the octets that may still be read, and the text goes on up to there at least
 pub record NeedsMore (peer : Addr) (place : Progress) (taken : ℕ) (text : List ℕ) : Type 0 where
-  pub beyond : RECORDING_OCTETS - taken ≤ length text
-  pub none : place_events peer place (take (RECORDING_OCTETS - taken) text) ≡ []
+  pub beyond : FILE_OCTETS - taken ≤ length text
+  pub none : place_events peer place (take (FILE_OCTETS - taken) text) ≡ []
 
 -- no event can be given: the recording is off its format here, or more octets are needed than may be read
 abbrev pub Stops : Addr → Progress → ℕ → List ℕ → Type 0
@@ -94,4 +94,4 @@ Stops peer place taken text = IsOff peer place text ⊎ NeedsMore peer place tak
 -- a feed went as far as it can: to where the recording is off its format, or to the last octet that may be read
 abbrev pub Halts : Addr → Progress → ℕ → List ℕ → Type 0
 Halts peer place taken text =
-    IsOff peer place text ⊎ ((RECORDING_OCTETS ≤ taken) × (place_events peer place [] ≡ []))
+    IsOff peer place text ⊎ ((FILE_OCTETS ≤ taken) × (place_events peer place [] ≡ []))

@@ -23,11 +23,10 @@ ghost use Rattle.mrt_feed.specs.MrtEvents.{mrt_events};
 ghost use Rattle.mrt_feed.specs.MrtFeeds.{events_left};
 ghost use Rattle.mrt_feed.specs.Places.{Halts, IsAtRecord, IsBetween, IsEnded, Ran, Stops, due_given};
 ghost use Rattle.mrt_feed.specs.Records.{head_length};
-ghost use Rattle.mrt_feed.specs.declared.input.TheConstants as limit;
+ghost use Rattle.feed_io.specs.declared.limited.TheConstants as limit;
 
-use crate::input::Input;
 use crate::progress::{Due, Progress, take_head};
-use feed_io::{Feed, FeedEvent};
+use feed_io::{Feed, FeedEvent, Limited};
 use std::marker::Model;
 use urpf_base::{Addr, Failed, Source};
 
@@ -42,7 +41,7 @@ const SKIP_OCTETS: usize = 512;
 /// many did.
 #[derive(Drop)]
 pub struct MrtFeed<S: Source + Drop> {
-    input: Input<S>,
+    input: Limited<S>,
     peer: Addr,
     place: Progress,
     failed: bool,
@@ -79,7 +78,7 @@ impl<S: Source + Drop> MrtFeed<S> {
         ensures faults { result.faults ≡ 0 }
     {
         MrtFeed {
-            input: Input::new(source),
+            input: Limited::new(source),
             peer,
             place: Progress::new(),
             failed: false,
@@ -148,7 +147,7 @@ impl<S: Source + Drop> Feed for MrtFeed<S> {
 
 /// The first event that is left, or a first part of its octets.
 fn next_event<S: Source + Drop>(
-    input: &mut Input<S>,
+    input: &mut Limited<S>,
     place: &mut Progress,
     peer: Addr,
     buf: &mut [u8],
@@ -182,7 +181,7 @@ fn next_event<S: Source + Drop>(
 
 /// A first part of the octets of a message that are still in the source.
 fn give_owed<S: Source + Drop>(
-    input: &mut Input<S>,
+    input: &mut Limited<S>,
     place: &mut Progress,
     peer: Addr,
     buf: &mut [u8],
@@ -215,7 +214,7 @@ fn give_owed<S: Source + Drop>(
 
 /// At least one and at most so many of the octets that come next.
 fn read_piece<S: Source + Drop>(
-    input: &mut Input<S>,
+    input: &mut Limited<S>,
     count: usize,
     buf: &mut [u8],
 ) -> Result<usize, Failed>
@@ -223,9 +222,9 @@ fn read_piece<S: Source + Drop>(
     requires some { 0 < count }
     ensures bound { IfOk result (λ n. (1 ≤ n) × (n ≤ length buf.new) × (n ≤ count)) }
     ensures octets { IfOk result (λ n. Consumes (S.left input.old.source) (S.left input.new.source) (take n buf.new)) }
-    ensures more { OnOk result (input.old.taken < limit.RECORDING_OCTETS) }
+    ensures more { OnOk result (input.old.taken < limit.FILE_OCTETS) }
     ensures taken { IfOk result (λ n. input.new.taken ≡ input.old.taken + n) }
-    ensures within { OnOk result (input.new.taken ≤ limit.RECORDING_OCTETS) }
+    ensures within { OnOk result (input.new.taken ≤ limit.FILE_OCTETS) }
     ensures unread { OnErr result (input.new.taken ≡ input.old.taken) }
     ensures rest { OnErr result (Keeps (S.left input.old.source) (S.left input.new.source)) }
     ensures grows { input.old.taken ≤ input.new.taken }
@@ -233,7 +232,7 @@ fn read_piece<S: Source + Drop>(
     ensures once { S.faults input.new.source ≤ S.faults input.old.source + 1 }
     ensures kept { OnOk result (S.faults input.new.source ≡ S.faults input.old.source) }
     ensures failed { OnErr result (Rose (S.faults input.old.source) (S.faults input.new.source)
-        ⊎ ((limit.RECORDING_OCTETS ≤ input.old.taken) ⊎ IsAtEnd (S.left input.new.source))) }
+        ⊎ ((limit.FILE_OCTETS ≤ input.old.taken) ⊎ IsAtEnd (S.left input.new.source))) }
 {
     let want = count.min(buf.len());
     let given = input.read(&mut buf[..want])?;
@@ -246,7 +245,7 @@ fn read_piece<S: Source + Drop>(
 /// What is due: octets in memory, or what the next record that tells something makes due. None at the
 /// end of the recording.
 fn due<S: Source + Drop>(
-    input: &mut Input<S>,
+    input: &mut Limited<S>,
     place: &mut Progress,
     peer: Addr,
 ) -> Result<Option<Due>, Failed>
@@ -270,7 +269,7 @@ fn due<S: Source + Drop>(
 
 /// What the next record that tells something makes due. None at the end of the recording.
 fn find<S: Source + Drop>(
-    input: &mut Input<S>,
+    input: &mut Limited<S>,
     place: &mut Progress,
     peer: Addr,
 ) -> Result<Option<Due>, Failed>
@@ -300,7 +299,7 @@ fn find<S: Source + Drop>(
 }
 
 /// Reads up to the end of the next head. False at the end of the recording.
-fn next_head<S: Source + Drop>(input: &mut Input<S>, place: &mut Progress) -> Result<bool, Failed>
+fn next_head<S: Source + Drop>(input: &mut Limited<S>, place: &mut Progress) -> Result<bool, Failed>
     requires { IsBetween place.old }
     ensures ran { (peer : Addr) → Ran peer (S.left input.old.source) input.old.taken place.old
         (S.left input.new.source) input.new.taken place.new [] }
@@ -309,8 +308,8 @@ fn next_head<S: Source + Drop>(input: &mut Input<S>, place: &mut Progress) -> Re
     ensures ended { result ≡ Ok false → IsEnded place.new input.new.taken (S.left input.new.source) }
     ensures failed { OnErr result (Rose (S.faults input.old.source) (S.faults input.new.source)
         ⊎ ((peer : Addr) → IfSome (S.left input.new.source) (Halts peer place.new input.new.taken))) }
-    ensures room { limit.RECORDING_OCTETS - input.new.taken + length place.new.head
-        ≤ limit.RECORDING_OCTETS - input.old.taken + length place.old.head }
+    ensures room { limit.FILE_OCTETS - input.new.taken + length place.new.head
+        ≤ limit.FILE_OCTETS - input.old.taken + length place.old.head }
     ensures later { S.faults input.old.source ≤ S.faults input.new.source }
     ensures once { S.faults input.new.source ≤ S.faults input.old.source + 1 }
     ensures kept { OnOk result (S.faults input.new.source ≡ S.faults input.old.source) }
@@ -321,7 +320,7 @@ fn next_head<S: Source + Drop>(input: &mut Input<S>, place: &mut Progress) -> Re
 }
 
 /// Takes what is passed over out of the source.
-fn pass_over<S: Source + Drop>(input: &mut Input<S>, place: &mut Progress) -> Result<(), Failed>
+fn pass_over<S: Source + Drop>(input: &mut Limited<S>, place: &mut Progress) -> Result<(), Failed>
     requires { IsBetween place.old }
     ensures ran { (peer : Addr) → Ran peer (S.left input.old.source) input.old.taken place.old
         (S.left input.new.source) input.new.taken place.new [] }
@@ -341,7 +340,7 @@ fn pass_over<S: Source + Drop>(input: &mut Input<S>, place: &mut Progress) -> Re
 }
 
 /// Takes a piece of what is passed over out of the source.
-fn skip_piece<S: Source + Drop>(input: &mut Input<S>, place: &mut Progress) -> Result<(), Failed>
+fn skip_piece<S: Source + Drop>(input: &mut Limited<S>, place: &mut Progress) -> Result<(), Failed>
     requires between { IsBetween place.old }
     requires some { 0 < place.old.skip }
     ensures ran { (peer : Addr) → Ran peer (S.left input.old.source) input.old.taken place.old
@@ -368,7 +367,10 @@ fn skip_piece<S: Source + Drop>(input: &mut Input<S>, place: &mut Progress) -> R
 
 /// Reads until the head of the next record is whole. False where the source ends before the first
 /// octet of it, and a failure where it ends within it.
-fn fill_whole<S: Source + Drop>(input: &mut Input<S>, place: &mut Progress) -> Result<bool, Failed>
+fn fill_whole<S: Source + Drop>(
+    input: &mut Limited<S>,
+    place: &mut Progress,
+) -> Result<bool, Failed>
     requires { IsAtRecord place.old }
     ensures ran { (peer : Addr) → Ran peer (S.left input.old.source) input.old.taken place.old
         (S.left input.new.source) input.new.taken place.new [] }
@@ -377,8 +379,8 @@ fn fill_whole<S: Source + Drop>(input: &mut Input<S>, place: &mut Progress) -> R
     ensures ended { result ≡ Ok false → IsEnded place.new input.new.taken (S.left input.new.source) }
     ensures failed { OnErr result (Rose (S.faults input.old.source) (S.faults input.new.source)
         ⊎ ((peer : Addr) → IfSome (S.left input.new.source) (Halts peer place.new input.new.taken))) }
-    ensures room { limit.RECORDING_OCTETS - input.new.taken + length place.new.head
-        ≤ limit.RECORDING_OCTETS - input.old.taken + length place.old.head }
+    ensures room { limit.FILE_OCTETS - input.new.taken + length place.new.head
+        ≤ limit.FILE_OCTETS - input.old.taken + length place.old.head }
     ensures later { S.faults input.old.source ≤ S.faults input.new.source }
     ensures once { S.faults input.new.source ≤ S.faults input.old.source + 1 }
     ensures kept { OnOk result (S.faults input.new.source ≡ S.faults input.old.source) }
@@ -395,7 +397,7 @@ fn fill_whole<S: Source + Drop>(input: &mut Input<S>, place: &mut Progress) -> R
 }
 
 /// Reads until the head of the next record is whole. False where the source ends before.
-fn fill<S: Source + Drop>(input: &mut Input<S>, place: &mut Progress) -> Result<bool, Failed>
+fn fill<S: Source + Drop>(input: &mut Limited<S>, place: &mut Progress) -> Result<bool, Failed>
     requires { IsAtRecord place.old }
     ensures ran { (peer : Addr) → Ran peer (S.left input.old.source) input.old.taken place.old
         (S.left input.new.source) input.new.taken place.new [] }
@@ -403,11 +405,11 @@ fn fill<S: Source + Drop>(input: &mut Input<S>, place: &mut Progress) -> Result<
     ensures whole { result ≡ Ok true → length place.new.head ≡ head_length place.new.head }
     ensures short { result ≡ Ok false → length place.new.head < head_length place.new.head }
     ensures ended { result ≡ Ok false → IsAtEnd (S.left input.new.source) }
-    ensures within { result ≡ Ok false → input.new.taken < limit.RECORDING_OCTETS }
+    ensures within { result ≡ Ok false → input.new.taken < limit.FILE_OCTETS }
     ensures failed { OnErr result (Rose (S.faults input.old.source) (S.faults input.new.source)
         ⊎ ((peer : Addr) → IfSome (S.left input.new.source) (Halts peer place.new input.new.taken))) }
-    ensures room { limit.RECORDING_OCTETS - input.new.taken + length place.new.head
-        ≤ limit.RECORDING_OCTETS - input.old.taken + length place.old.head }
+    ensures room { limit.FILE_OCTETS - input.new.taken + length place.new.head
+        ≤ limit.FILE_OCTETS - input.old.taken + length place.old.head }
     ensures later { S.faults input.old.source ≤ S.faults input.new.source }
     ensures once { S.faults input.new.source ≤ S.faults input.old.source + 1 }
     ensures kept { OnOk result (S.faults input.new.source ≡ S.faults input.old.source) }
@@ -423,7 +425,10 @@ fn fill<S: Source + Drop>(input: &mut Input<S>, place: &mut Progress) -> Result<
 }
 
 /// Reads a piece of the head of the next record. False at the end of the source.
-fn fill_piece<S: Source + Drop>(input: &mut Input<S>, place: &mut Progress) -> Result<bool, Failed>
+fn fill_piece<S: Source + Drop>(
+    input: &mut Limited<S>,
+    place: &mut Progress,
+) -> Result<bool, Failed>
     requires start { IsAtRecord place.old }
     requires short { length place.old.head < head_length place.old.head }
     ensures ran { (peer : Addr) → Ran peer (S.left input.old.source) input.old.taken place.old
@@ -432,11 +437,11 @@ fn fill_piece<S: Source + Drop>(input: &mut Input<S>, place: &mut Progress) -> R
     ensures longer { result ≡ Ok true → length place.old.head < length place.new.head }
     ensures same { result ≡ Ok false → place.new.head ≡ place.old.head }
     ensures ended { result ≡ Ok false → IsAtEnd (S.left input.new.source) }
-    ensures within { result ≡ Ok false → input.new.taken < limit.RECORDING_OCTETS }
+    ensures within { result ≡ Ok false → input.new.taken < limit.FILE_OCTETS }
     ensures failed { OnErr result (Rose (S.faults input.old.source) (S.faults input.new.source)
         ⊎ ((peer : Addr) → IfSome (S.left input.new.source) (Halts peer place.new input.new.taken))) }
-    ensures room { limit.RECORDING_OCTETS - input.new.taken + length place.new.head
-        ≤ limit.RECORDING_OCTETS - input.old.taken + length place.old.head }
+    ensures room { limit.FILE_OCTETS - input.new.taken + length place.new.head
+        ≤ limit.FILE_OCTETS - input.old.taken + length place.old.head }
     ensures later { S.faults input.old.source ≤ S.faults input.new.source }
     ensures once { S.faults input.new.source ≤ S.faults input.old.source + 1 }
     ensures kept { OnOk result (S.faults input.new.source ≡ S.faults input.old.source) }

@@ -4,14 +4,14 @@ ghost use Rattle.std.specs.Prelude.{◌≡◌, ◌-◌, ◌≤◌, ◌++◌, [],
 ghost use Rattle.mrt_feed.specs.Records as spec;
 ghost use Rattle.mrt_feed.specs.Records.{IsHead};
 
-use crate::buffer::Buffer;
 use crate::layout::head_length;
+use feed_io::FewOctets;
 use std::marker::Model;
 
 /// A front of a head, or a whole one. Contracts see it as the list of its octets.
 #[derive(Drop)]
 pub struct Head {
-    buffer: Buffer,
+    buffer: FewOctets,
 }
 
 impl Model for Head {
@@ -31,7 +31,7 @@ impl Head {
         ensures { result ≡ [] }
     {
         Head {
-            buffer: Buffer::new(),
+            buffer: FewOctets::new(),
         }
     }
 

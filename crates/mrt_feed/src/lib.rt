@@ -8,10 +8,8 @@
 //! ```
 #![tactic(auto)]
 
-mod buffer;
 mod feed;
 mod head;
-mod input;
 mod laws;
 mod layout;
 mod opening;

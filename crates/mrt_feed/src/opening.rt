@@ -14,9 +14,9 @@ ghost use Rattle.byteorder.specs.Endian.{big_bytes};
 ghost use Rattle.urpf_base.specs.declared.address.Addr.{Addr};
 ghost use Rattle.mrt_feed.specs.Openings as spec;
 
-use crate::buffer::Buffer;
 use crate::record_head::Sender;
 use as_path::Width;
+use feed_io::FewOctets;
 
 /// The type of an OPEN (RFC 4271, section 4.1).
 pub const OPEN: u8 = 1;
@@ -37,17 +37,17 @@ pub const FOUR_OCTET_AS: u8 = 65;
 pub const AS_TRANS: u16 = 23_456;
 
 /// The OPEN and the KEEPALIVE of a session with this peer, at most 62 octets.
-pub fn session_opening(sender: &Sender) -> Buffer
+pub fn session_opening(sender: &Sender) -> FewOctets
     ensures octets { result ≡ spec.session_opening sender.now }
 {
-    let mut messages = Buffer::new();
+    let mut messages = FewOctets::new();
     append_open(&mut messages, sender);
     append_header(&mut messages, 19, KEEPALIVE);
     messages
 }
 
 /// The OPEN of this peer, with its AS number as wide as the record has it.
-fn append_open(messages: &mut Buffer, sender: &Sender)
+fn append_open(messages: &mut FewOctets, sender: &Sender)
     requires { messages.old ≡ [] }
     ensures octets { messages.new ≡ spec.open_message sender.now }
     ensures within { length messages.new ≤ 43 }
@@ -59,7 +59,7 @@ fn append_open(messages: &mut Buffer, sender: &Sender)
 }
 
 /// The OPEN of a peer in whose record AS numbers have two octets.
-fn append_narrow(messages: &mut Buffer, asn: u32)
+fn append_narrow(messages: &mut FewOctets, asn: u32)
     requires { messages.old ≡ [] }
     ensures octets { (addr : Addr) → messages.new ≡ spec.open_message (record { addr = addr; width = Width.Two; asn = asn }) }
     ensures count { length messages.new ≡ 37 }
@@ -71,7 +71,7 @@ fn append_narrow(messages: &mut Buffer, asn: u32)
 }
 
 /// The OPEN of a peer in whose record AS numbers have four octets.
-fn append_wide(messages: &mut Buffer, asn: u32)
+fn append_wide(messages: &mut FewOctets, asn: u32)
     requires { messages.old ≡ [] }
     ensures octets { (addr : Addr) → messages.new ≡ spec.open_message (record { addr = addr; width = Width.Four; asn = asn }) }
     ensures count { length messages.new ≡ 43 }
@@ -95,7 +95,7 @@ fn two_octets(asn: u32) -> u16
 }
 
 /// Appends the header of a message of so many octets and of this type.
-fn append_header(messages: &mut Buffer, count: u16, kind: u8)
+fn append_header(messages: &mut FewOctets, count: u16, kind: u8)
     requires { length messages.old + 19 ≤ 79 }
     ensures { messages.new ≡ messages.old ++ (replicate 16 255 ++ (big_bytes 2 count ++ (kind ∷ []))) }
 {

@@ -6,12 +6,12 @@ ghost use Rattle.mrt_feed.specs.Openings.{session_opening};
 ghost use Rattle.mrt_feed.specs.Places.{Goes, IsAtRecord, IsBetween, IsOff, due_events};
 ghost use Rattle.mrt_feed.specs.Records.{change, head_length, head_says, message_front};
 
-use crate::buffer::{Buffer, Unsent};
 use crate::head::Head;
 use crate::layout::ESTABLISHED;
 use crate::opening::{KEEPALIVE, OPEN, session_opening};
 use crate::record_head::{RecordHead, Sender, read_head};
 use as_path::Width;
+use feed_io::{FewOctets, Unsent};
 use urpf_base::{Addr, Failed};
 
 /// The octets of the header of a BGP message (RFC 4271, section 4.1).
@@ -56,7 +56,7 @@ impl Progress {
         Progress {
             head: Head::new(),
             skip: 0,
-            unsent: Unsent::new(Buffer::new()),
+            unsent: Unsent::new(FewOctets::new()),
             owed: 0,
             link: None,
         }
@@ -186,7 +186,7 @@ fn hand_over(place: &mut Progress, count: u32)
     requires { 19 ≤ length place.old.head }
     ensures { place.new ≡ record place.old { head = []; unsent = message_front place.old.head; owed = count } }
 {
-    let mut front = Buffer::new();
+    let mut front = FewOctets::new();
     let octets = place.head.octets();
     front.append(&octets[octets.len() - MESSAGE_HEADER..]);
     place.unsent = Unsent::new(front);

@@ -7,7 +7,7 @@ use Rattle.std.specs.Io.KnownBytes.{Consumes, IsAtEnd, ReadConsumes}
 use Rattle.feed_io.specs.TraceFeeds.{KeepsCount}
 use Rattle.pcap_packets.specs.Reading.{part_left, packets_left, EndsWell, IsUnfinished, Reads, Moves, Moved, IsOff}
 use Rattle.pcap_packets.specs.Reading.{NeedsMore, Stops}
-use Rattle.pcap_packets.specs.declared.limited.TheConstants.{CAPTURE_OCTETS}
+use Rattle.feed_io.specs.declared.limited.TheConstants.{FILE_OCTETS}
 use Rattle.pcap_packets.specs.declared.part.Part.{Part}
 use Rattle.pcap_packets.proofs.Parts.{reads_then, nothing_more}
 
@@ -65,7 +65,7 @@ moved_on iface (Some text) (Some rest) i j old mid new xs ys zs first second = r
 
 -- a piece was read behind a part
 pub moved_piece : (iface : ℕ) (text rest : Option (List ℕ)) (taken n : ℕ) (old new : Part) (unsent piece : List ℕ)
-    → Consumes text rest piece → length piece ≡ n → taken + n ≤ CAPTURE_OCTETS
+    → Consumes text rest piece → length piece ≡ n → taken + n ≤ FILE_OCTETS
     → Reads iface old unsent piece new unsent → Moved iface text taken old unsent rest (taken + n) new unsent
 moved_piece iface None rest taken n old new unsent piece consumed long within reads = tt
 moved_piece iface (Some text) None taken n old new unsent piece consumed long within reads = absurd consumed
@@ -143,16 +143,16 @@ keeps_count iface (Some text) (Some rest) taken count a b xs ys m =
 -- of what may still be read the piece was read
 seen : (iface : ℕ) (a b : Part) (xs ys text rest : List ℕ) (taken count : ℕ)
     → Moves iface text taken a xs rest count b ys
-    → xs ++ part_left iface a (take (CAPTURE_OCTETS - taken) text)
-    ≡ ys ++ part_left iface b (take (CAPTURE_OCTETS - count) rest)
+    → xs ++ part_left iface a (take (FILE_OCTETS - taken) text)
+    ≡ ys ++ part_left iface b (take (FILE_OCTETS - count) rest)
 seen iface a b xs ys text rest taken count m =
-    ap (λ t. xs ++ part_left iface a (take (CAPTURE_OCTETS - taken) t)) m.parts
+    ap (λ t. xs ++ part_left iface a (take (FILE_OCTETS - taken) t)) m.parts
     ∙ ap (λ k. xs ++ part_left iface a (take k (m.piece ++ rest))) (omega (arith, m.counted, m.within))
-    ∙ ap (λ t. xs ++ part_left iface a t) (take-append-add m.piece rest (CAPTURE_OCTETS - count))
-    ∙ m.reads.same (take (CAPTURE_OCTETS - count) rest)
+    ∙ ap (λ t. xs ++ part_left iface a t) (take-append-add m.piece rest (FILE_OCTETS - count))
+    ∙ m.reads.same (take (FILE_OCTETS - count) rest)
 
 goes_past : (iface : ℕ) (a b : Part) (xs ys text rest : List ℕ) (taken count : ℕ)
-    → Moves iface text taken a xs rest count b ys → (ys ≡ [] → rest ≡ []) → (ys ≡ [] → count < CAPTURE_OCTETS)
+    → Moves iface text taken a xs rest count b ys → (ys ≡ [] → rest ≡ []) → (ys ≡ [] → count < FILE_OCTETS)
     → (ys ≡ [] → EndsWell b []) → xs ≡ [] → IsOff iface a text ⊎ NeedsMore taken iface a text → ⊥
 goes_past iface a b xs ys text rest taken count m ended room well sent (inl off) =
     let none : ys ++ part_left iface b rest ≡ [] =
@@ -162,10 +162,10 @@ goes_past iface a b xs ys text rest taken count m ended room well sent (inl off)
     off.wrong (subst (λ (t : List ℕ). EndsWell a t) (sym m.parts)
     (m.reads.back rest (subst (λ (t : List ℕ). EndsWell b t) (sym (ended empty)) (well empty))))
 goes_past iface a b xs ys text rest taken count m ended room well sent (inr more) =
-    let next = part_left iface b (take (CAPTURE_OCTETS - count) rest) in
+    let next = part_left iface b (take (FILE_OCTETS - count) rest) in
     let none : ys ++ next ≡ [] =
     sym (seen iface a b xs ys text rest taken count m)
-    ∙ ap (λ s. s ++ part_left iface a (take (CAPTURE_OCTETS - taken) text)) sent ∙ more.none in
+    ∙ ap (λ s. s ++ part_left iface a (take (FILE_OCTETS - taken) text)) sent ∙ more.none in
     let empty = none_of_two ys next none in
     omega (
       arith,
@@ -179,7 +179,7 @@ goes_past iface a b xs ys text rest taken count m ended room well sent (inr more
 
 -- what gives something, or ends as it should, does not stop
 pub goes_on : (iface : ℕ) (old new : Option (List ℕ)) (taken count : ℕ) (a b : Part) (xs ys : List ℕ)
-    → Moved iface old taken a xs new count b ys → (ys ≡ [] → IsAtEnd new) → (ys ≡ [] → count < CAPTURE_OCTETS)
+    → Moved iface old taken a xs new count b ys → (ys ≡ [] → IsAtEnd new) → (ys ≡ [] → count < FILE_OCTETS)
     → (ys ≡ [] → EndsWell b []) → IfSome old (λ text. Stops taken iface a xs text → false ≡ true)
 goes_on iface None new taken count a b xs ys moved ended room well = tt
 goes_on iface (Some text) None taken count a b xs ys moved ended room well = absurd moved
@@ -202,11 +202,11 @@ off_before iface a b xs ys text rest taken count m sent off =
     }
 
 more_before : (iface : ℕ) (a b : Part) (xs ys text rest : List ℕ) (taken count : ℕ)
-    → Moves iface text taken a xs rest count b ys → ys ≡ [] → CAPTURE_OCTETS ≤ count → IsUnfinished b
+    → Moves iface text taken a xs rest count b ys → ys ≡ [] → FILE_OCTETS ≤ count → IsUnfinished b
     → Stops taken iface a xs text
 more_before iface a b xs ys text rest taken count m sent full is =
-    let here = part_left iface a (take (CAPTURE_OCTETS - taken) text) in
-    let zero_left : CAPTURE_OCTETS - count ≡ 0 = omega (arith, full) in
+    let here = part_left iface a (take (FILE_OCTETS - taken) text) in
+    let zero_left : FILE_OCTETS - count ≡ 0 = omega (arith, full) in
     let none : xs ++ here ≡ [] =
     seen iface a b xs ys text rest taken count m
     ∙ ap (λ k. ys ++ part_left iface b (take k rest)) zero_left
@@ -223,7 +223,7 @@ more_before iface a b xs ys text rest taken count m sent full is =
 -- why it failed, by what was read
 pub fails_so : (R F : Type 0) (iface : ℕ) (old new : Option (List ℕ)) (taken count : ℕ) (a b : Part) (xs ys : List ℕ)
     → Moved iface old taken a xs new count b ys → ys ≡ []
-    → R ⊎ (IfSome new (IsOff iface b) ⊎ ((CAPTURE_OCTETS ≤ count) × IsUnfinished b))
+    → R ⊎ (IfSome new (IsOff iface b) ⊎ ((FILE_OCTETS ≤ count) × IsUnfinished b))
     → R ⊎ (IfSome old (Stops taken iface a xs) ⊎ F)
 fails_so R F iface old new taken count a b xs ys moved sent (inl rose) = inl rose
 fails_so R F iface None new taken count a b xs ys moved sent (inr cause) = inr (inl tt)

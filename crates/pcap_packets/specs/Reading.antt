@@ -6,7 +6,7 @@ use Rattle.urpf_base.specs.Series.{SpellsAll}
 use Rattle.pcap_packets.specs.Captures.{SpellsFrame, IsCapture, records_behind, pcap_records}
 use Rattle.pcap_packets.specs.Frames.{frame_record}
 use Rattle.pcap_packets.specs.declared.formats.Format.{Format}
-use Rattle.pcap_packets.specs.declared.limited.TheConstants.{CAPTURE_OCTETS}
+use Rattle.feed_io.specs.declared.limited.TheConstants.{FILE_OCTETS}
 use Rattle.pcap_packets.specs.declared.part.Part.{Part}
 use Rattle.pcap_packets.specs.declared.part.Stage.{Stage}
 use Rattle.pcap_packets.specs.declared.part.Stage.TheVariants.{FileHeader, RecordHeader, Frame}
@@ -85,7 +85,7 @@ pub record Moves (iface : ℕ) (text : List ℕ) (taken : ℕ) (old : Part) (uns
   pub piece : List ℕ
   pub parts : text ≡ piece ++ rest
   pub counted : count ≡ taken + length piece
-  pub within : length piece ≤ CAPTURE_OCTETS - taken
+  pub within : length piece ≤ FILE_OCTETS - taken
   pub reads : Reads iface old unsent piece new pending
 
 -- the same of a source, where it tells what is left
@@ -102,8 +102,8 @@ pub record IsOff (iface : ℕ) (part : Part) (text : List ℕ) : Type 0 where
 
 -- there is nothing to give in the octets that may still be read, and the text goes on up to there at least
 pub record NeedsMore (taken iface : ℕ) (part : Part) (text : List ℕ) : Type 0 where
-  pub beyond : CAPTURE_OCTETS - taken ≤ length text
-  pub none : part_left iface part (take (CAPTURE_OCTETS - taken) text) ≡ []
+  pub beyond : FILE_OCTETS - taken ≤ length text
+  pub none : part_left iface part (take (FILE_OCTETS - taken) text) ≡ []
 
 -- nothing can be given: the file is off its format here, or more octets are needed than may be read
 pub record Stops (taken iface : ℕ) (part : Part) (pending text : List ℕ) : Type 0 where

@@ -11,9 +11,8 @@ ghost use Rattle.std.specs.Prelude.{◌≡◌, length, take, min};
 ghost use Rattle.pcap_packets.specs.Frames as spec;
 
 use crate::formats::Link;
-use crate::octets::Octets;
 use byteorder::{BigEndian, ByteOrder};
-use feed_io::PACKET;
+use feed_io::{FewOctets, PACKET};
 
 /// The octets of an Ethernet frame before its packet (IEEE 802.3, section 3.1.1).
 const ETHERNET_HEADER: usize = 14;
@@ -35,23 +34,23 @@ const PACKET_OCTETS: usize = 60;
 
 /// The octets of a record: for a frame with a packet 01, the number of the interface and the length,
 /// both in two octets, and the first 60 octets of the packet, and for another frame none.
-pub fn frame_record(link: Link, iface: u16, frame: &[u8]) -> Octets
+pub fn frame_record(link: Link, iface: u16, frame: &[u8]) -> FewOctets
     ensures { result ≡ spec.frame_record link iface frame.now }
 {
     match packet_offset(link, frame) {
-        None => Octets::new(),
+        None => FewOctets::new(),
         Some(offset) => packet_record(iface, &frame[offset..]),
     }
 }
 
 /// The octets of the record of a packet.
-fn packet_record(iface: u16, packet: &[u8]) -> Octets
+fn packet_record(iface: u16, packet: &[u8]) -> FewOctets
     ensures { result ≡ spec.packet_record iface packet.now }
 {
     let octets = first_octets(packet);
     let [iface_high, iface_low] = iface.to_be_bytes();
     let [high, low] = (octets.len() as u16).to_be_bytes();
-    let mut record = Octets::new();
+    let mut record = FewOctets::new();
     record.append(&[PACKET, iface_high, iface_low, high, low]);
     record.append(octets);
     record

@@ -17,8 +17,8 @@ ghost use Rattle.pcap_packets.specs.declared.formats.Link.TheVariants as link;
 
 use crate::formats::{ETHERNET, FILE_HEADER, MICROSECONDS, NANOSECONDS, RAW_IP};
 use crate::frames::{IPV4, IPV6, VLAN_TAG};
-use crate::limited::CAPTURE_OCTETS;
 use crate::part::CAPTURED_OCTETS;
+use feed_io::FILE_OCTETS;
 
 /// The numbers of capture files and of Ethernet frames (pcap-savefile(5); draft-ietf-opsawg-pcap,
 /// section 4; RFC 894; RFC 2464, section 3; IEEE 802.1Q, section 9.5), and two limits of our own: a
@@ -28,7 +28,7 @@ pub fn assigned_numbers()
     ensures header { FILE_HEADER ≡ 24 }
     ensures links { (ETHERNET ≡ 1) × (RAW_IP ≡ 101) }
     ensures types { (IPV4 ≡ 2048) × (IPV6 ≡ 34525) × (VLAN_TAG ≡ 33024) }
-    ensures limits { (CAPTURED_OCTETS ≡ 262144) × (CAPTURE_OCTETS ≡ 4398046511104) }
+    ensures limits { (CAPTURED_OCTETS ≡ 262144) × (FILE_OCTETS ≡ 4398046511104) }
 {}
 
 /// A capture file gives the records of its frames, one after the other, whatever its numbers are in

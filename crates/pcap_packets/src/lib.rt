@@ -8,8 +8,6 @@
 mod formats;
 mod frames;
 mod laws;
-mod limited;
-mod octets;
 mod packets;
 mod part;
 mod words;

@@ -11,12 +11,10 @@ ghost use Rattle.feed_io.specs.Memory.{counted_up};
 ghost use Rattle.feed_io.specs.TraceFeeds.{KeepsCount};
 ghost use Rattle.pcap_packets.specs.Captures.{pcap_records};
 ghost use Rattle.pcap_packets.specs.Reading.{EndsWell, Fits, IsOff, IsUnfinished, Moved, Stops, packets_left};
-ghost use Rattle.pcap_packets.specs.declared.limited.TheConstants as limit;
+ghost use Rattle.feed_io.specs.declared.limited.TheConstants as limit;
 
-use crate::limited::Limited;
-use crate::octets::{Octets, Unsent};
 use crate::part::{PIECE_OCTETS, Part};
-use feed_io::PacketSource;
+use feed_io::{FewOctets, Limited, PacketSource, Unsent};
 use std::marker::Model;
 use urpf_base::{Failed, Source};
 
@@ -68,7 +66,7 @@ impl<S: Source + Drop> PcapPackets<S> {
             input: Limited::new(source),
             iface,
             part: Part::file_header(),
-            pending: Unsent::new(Octets::new()),
+            pending: Unsent::new(FewOctets::new()),
             failed: false,
             faults: 0,
         }
@@ -145,12 +143,12 @@ fn fill<S: Source + Drop>(
     ensures kept { OnOk result (S.faults input.new.source ≡ S.faults input.old.source) }
     ensures grows { input.old.taken ≤ input.new.taken }
     ensures ended { OnOk result (pending.new ≡ [] → IsAtEnd (S.left input.new.source)) }
-    ensures within { OnOk result (pending.new ≡ [] → input.new.taken < limit.CAPTURE_OCTETS) }
+    ensures within { OnOk result (pending.new ≡ [] → input.new.taken < limit.FILE_OCTETS) }
     ensures well { OnOk result (pending.new ≡ [] → EndsWell part.new []) }
     ensures nothing { OnErr result (pending.new ≡ []) }
     ensures failed { OnErr result (Rose (S.faults input.old.source) (S.faults input.new.source)
         ⊎ (IfSome (S.left input.new.source) (IsOff iface part.new)
-        ⊎ ((limit.CAPTURE_OCTETS ≤ input.new.taken) × IsUnfinished part.new))) }
+        ⊎ ((limit.FILE_OCTETS ≤ input.new.taken) × IsUnfinished part.new))) }
 {
     while pending.len() == 0 {
         if !step(input, iface, part, pending)? {
@@ -175,7 +173,7 @@ fn step<S: Source + Drop>(
     ensures more { result ≡ Ok true → input.old.taken < input.new.taken }
     ensures ended { result ≡ Ok false → IsAtEnd (S.left input.new.source) }
     ensures sent { result ≡ Ok false → pending.new ≡ [] }
-    ensures room { OnOk result (input.old.taken < limit.CAPTURE_OCTETS) }
+    ensures room { OnOk result (input.old.taken < limit.FILE_OCTETS) }
     ensures stays { result ≡ Ok false → input.new.taken ≡ input.old.taken }
     ensures later { S.faults input.old.source ≤ S.faults input.new.source }
     ensures once { S.faults input.new.source ≤ S.faults input.old.source + 1 }
@@ -184,7 +182,7 @@ fn step<S: Source + Drop>(
     ensures nothing { OnErr result (pending.new ≡ []) }
     ensures failed { OnErr result (Rose (S.faults input.old.source) (S.faults input.new.source)
         ⊎ (((text : List ℕ) → IsOff iface part.new text)
-        ⊎ ((limit.CAPTURE_OCTETS ≤ input.new.taken) × IsUnfinished part.new))) }
+        ⊎ ((limit.FILE_OCTETS ≤ input.new.taken) × IsUnfinished part.new))) }
 {
     let count = take_piece(input, part)?;
     if count == 0 {
@@ -205,13 +203,13 @@ fn take_piece<S: Source + Drop>(input: &mut Limited<S>, part: &mut Part) -> Resu
     ensures taken { IfOk result (λ n. input.new.taken ≡ input.old.taken + n) }
     ensures unfinished { result ≡ Ok 0 → IsUnfinished part.new }
     ensures ended { result ≡ Ok 0 → IsAtEnd (S.left input.new.source) }
-    ensures room { OnOk result (input.old.taken < limit.CAPTURE_OCTETS) }
+    ensures room { OnOk result (input.old.taken < limit.FILE_OCTETS) }
     ensures later { S.faults input.old.source ≤ S.faults input.new.source }
     ensures once { S.faults input.new.source ≤ S.faults input.old.source + 1 }
     ensures kept { OnOk result (S.faults input.new.source ≡ S.faults input.old.source) }
     ensures grows { input.old.taken ≤ input.new.taken }
     ensures failed { OnErr result (Rose (S.faults input.old.source) (S.faults input.new.source)
-        ⊎ (limit.CAPTURE_OCTETS ≤ input.new.taken)) }
+        ⊎ (limit.FILE_OCTETS ≤ input.new.taken)) }
     ensures same { OnErr result (IsUnfinished part.new) }
 {
     let mut piece = [0u8; PIECE_OCTETS];

@@ -15,11 +15,14 @@ ghost use Rattle.pcap_packets.specs.declared.part.Stage.TheVariants as stage;
 
 use crate::formats::{FILE_HEADER, Format, read_format, read_number};
 use crate::frames::frame_record;
-use crate::octets::{MOST_OCTETS, Octets, Unsent};
+use feed_io::{FewOctets, Unsent};
 use urpf_base::Failed;
 
 /// The octets of the header of a record.
 const RECORD_HEADER: usize = 16;
+
+/// The most octets of a frame that decide its record: 18 before the packet, and 60 of it.
+const FRONT_OCTETS: usize = 78;
 
 /// The most octets of a frame.
 pub const CAPTURED_OCTETS: u32 = 262_144;
@@ -44,7 +47,7 @@ pub struct Part {
     /// Which one it is.
     pub stage: Stage,
     /// Its first octets, as far as they were read, and at most 78 of them.
-    pub front: Octets,
+    pub front: FewOctets,
     /// How many octets of it were not read yet.
     pub missing: usize,
 }
@@ -56,7 +59,7 @@ impl Part {
     {
         Part {
             stage,
-            front: Octets::new(),
+            front: FewOctets::new(),
             missing,
         }
     }
@@ -76,7 +79,7 @@ impl Part {
         ensures missing { result ≤ self.now.missing }
         ensures room { length self.now.front < 78 → length self.now.front + result ≤ 78 }
     {
-        let room = MOST_OCTETS - self.front.octets().len();
+        let room = FRONT_OCTETS.saturating_sub(self.front.octets().len());
         if room == 0 {
             return PIECE_OCTETS.min(self.missing);
         }
@@ -93,7 +96,7 @@ impl Part {
         ensures missing { self.new.missing ≡ self.old.missing - length piece.now }
     {
         self.missing -= piece.len();
-        if self.front.octets().len() == MOST_OCTETS {
+        if self.front.octets().len() >= FRONT_OCTETS {
             return;
         }
         self.front.append(piece);

@@ -1,6 +1,6 @@
 use Rattle.std.proofs.Common.{◌≡◌, ◌+◌, ◌-◌, ◌≤◌, [], length}
 use Rattle.mrt_feed.specs.Places.{IsBetween, Ran}
-use Rattle.mrt_feed.specs.declared.input.TheConstants as limit
+use Rattle.feed_io.specs.declared.limited.TheConstants as limit
 use Rattle.mrt_feed.proofs.feed.find.Given as goal
 
 abbrev pub invariant-loop-whole : goal.invariant-loop-whole
@@ -13,4 +13,4 @@ invariant-loop-whole g l = record {
 }
 
 abbrev pub decreases-loop-whole : goal.decreases-loop-whole
-decreases-loop-whole g l = limit.RECORDING_OCTETS - l.input.taken + length l.place.head
+decreases-loop-whole g l = limit.FILE_OCTETS - l.input.taken + length l.place.head

@@ -1,6 +1,6 @@
 use Rattle.std.proofs.Common.{◌≡◌, ◌≤◌, ◌-◌}
 use Rattle.pcap_packets.specs.Reading.{IsUnfinished, Moved}
-use Rattle.pcap_packets.specs.declared.limited.TheConstants.{CAPTURE_OCTETS}
+use Rattle.feed_io.specs.declared.limited.TheConstants.{FILE_OCTETS}
 use Rattle.pcap_packets.proofs.packets.fill.Given as goal
 
 abbrev pub invariant-loop-input : goal.invariant-loop-input
@@ -13,4 +13,4 @@ invariant-loop-input g l = record {
 }
 
 abbrev pub decreases-loop-input : goal.decreases-loop-input
-decreases-loop-input g l = CAPTURE_OCTETS - l.input.taken
+decreases-loop-input g l = FILE_OCTETS - l.input.taken

@@ -1,6 +1,6 @@
 use Rattle.std.proofs.Common.{◌≡◌, ◌≤◌, ℕ, List, [], length, drop, ap, arith, length-drop, eqb-true, eq-eqb}
 use Rattle.std.proofs.lemmas.List.{drop_all}
-use Rattle.mrt_feed.proofs.buffer.Unsent.is_empty.Goals as goal
+use Rattle.feed_io.proofs.few_octets.Unsent.is_empty.Goals as goal
 
 none_left : (at : ℕ) (xs ys : List ℕ) → at ≡ length ys → ys ≡ xs → drop at xs ≡ []
 none_left at xs ys is same = drop_all at xs (omega (arith, is, ap length same))
@@ -13,7 +13,7 @@ returns c =
     let inside = c.self.inside in
     let same = c.octets.ensures.octets in
     rw (← c.self.view_is) (
-      λ yes. none_left inside.at inside.buffer c.octets.result.now (eqb-true _ _ yes) same,
+      λ yes. none_left inside.at inside.octets c.octets.result.now (eqb-true _ _ yes) same,
       λ none. eq-eqb inside.at (length c.octets.result.now)
-          (all_given inside.at inside.buffer c.octets.result.now c.self.invariant same none),
+          (all_given inside.at inside.octets c.octets.result.now c.self.invariant same none),
     )

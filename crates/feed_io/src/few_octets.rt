@@ -1,42 +1,43 @@
 //! A few octets in a buffer of fixed size, so that they never want memory.
-ghost use Rattle.std.specs.Prelude.{◌≡◌, ◌+◌, ◌<◌, ◌≤◌, [], ◌++◌, length, take, min};
+ghost use Rattle.std.specs.Prelude.{◌≡◌, ◌+◌, ◌<◌, ◌≤◌, ◌↔◌, [], ◌++◌, length, take, min, IsTrue};
 
 use std::marker::Model;
 
-/// The most octets of a frame that decide its record: 18 before the packet, and 60 of it.
-pub const MOST_OCTETS: usize = 78;
+/// The most octets that a buffer holds: a message of the generator has so many, as has the head of a
+/// record of a recording, and one less of a frame decide the record of its packet.
+pub const FEW_OCTETS: usize = 79;
 
-/// At most 78 octets. Contracts see them as a list.
+/// At most 79 octets. Contracts see them as a list.
 #[derive(Drop)]
-pub struct Octets {
-    octets: [u8; MOST_OCTETS],
+pub struct FewOctets {
+    octets: [u8; FEW_OCTETS],
     len: usize,
 }
 
-impl Model for Octets {
+impl Model for FewOctets {
     ghost use Rattle.std.specs.Prelude.{ℕ, ◌≤◌, List, take};
 
     ghost Value = { List ℕ };
 
     ghost view = { λ o. take o.len o.octets };
 
-    ghost invariant = { λ o. o.len ≤ 78 };
+    ghost invariant = { λ o. o.len ≤ 79 };
 }
 
-impl Octets {
+impl FewOctets {
     /// No octets.
-    pub fn new() -> Octets
+    pub fn new() -> FewOctets
         ensures { result ≡ [] }
     {
-        Octets {
-            octets: [0; MOST_OCTETS],
+        FewOctets {
+            octets: [0; FEW_OCTETS],
             len: 0,
         }
     }
 
     /// Appends the piece, for which there is room.
     pub fn append(&mut self, piece: &[u8])
-        requires { length self.old + length piece.now ≤ 78 }
+        requires { length self.old + length piece.now ≤ 79 }
         ensures { self.new ≡ self.old ++ piece.now }
     {
         let end = self.len + piece.len();
@@ -47,16 +48,23 @@ impl Octets {
     /// The octets so far.
     pub fn octets(&self) -> &[u8]
         ensures octets { result.now ≡ self.now }
-        ensures within { length result.now ≤ 78 }
+        ensures within { length result.now ≤ 79 }
     {
         &self.octets[..self.len]
+    }
+
+    /// No octets any more.
+    pub fn clear(&mut self)
+        ensures { self.new ≡ [] }
+    {
+        self.len = 0;
     }
 }
 
 /// Octets that are given in pieces. Contracts see them as the list of those that are left.
 #[derive(Drop)]
 pub struct Unsent {
-    octets: Octets,
+    octets: FewOctets,
     at: usize,
 }
 
@@ -72,7 +80,7 @@ impl Model for Unsent {
 
 impl Unsent {
     /// All of the octets are left.
-    pub fn new(octets: Octets) -> Unsent
+    pub fn new(octets: FewOctets) -> Unsent
         ensures { result ≡ octets }
     {
         Unsent { octets, at: 0 }
@@ -83,6 +91,13 @@ impl Unsent {
         ensures { result ≡ length self.now }
     {
         self.octets.octets().len() - self.at
+    }
+
+    /// Whether no octet is left.
+    pub fn is_empty(&self) -> bool
+        ensures { IsTrue result ↔ (self.now ≡ []) }
+    {
+        self.at == self.octets.octets().len()
     }
 
     /// Copies the first octets that are left into the buffer and takes them away, as many as there

@@ -1,12 +1,10 @@
 -- What lines that were run come to, out of what is said of the run of them.
-use Rattle.std.proofs.Common.{◌≡◌, ℕ, ◌<◌, ◌^◌, ◌≤◌, List, ◌++◌, length, map, Option, Some, Result, Ok, Err, sym, ap, ◌∙◌}
+use Rattle.std.proofs.Common.{◌≡◌, ℕ, ◌≤◌, List, ◌++◌, length, map, Option, Some, Result, Ok, Err, sym, ap, ◌∙◌}
 use Rattle.std.specs.Prelude.{IfErr, OnOk}
 use mathlib.Core.List.{IsPrefix}
 use Rattle.urpf_base.specs.declared.kinds.Kind.{Kind}
-use Rattle.cover_table.specs.Snapshots.{fold}
 use Rattle.cover_table.specs.declared.batch.Batch.{Batch}
 use Rattle.router_config.specs.Settings.{Settings}
-use Rattle.runbook.specs.Book.{AreConfiguredFor}
 use Rattle.runbook.specs.declared.lines.BookLine.{BookLine}
 use Rattle.control_core.specs.Worlds.{last_number}
 use Rattle.control_core.specs.declared.limits.RunFault.{RunFault}

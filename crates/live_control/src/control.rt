@@ -50,16 +50,21 @@ impl<'g, J: Naming, G> Model for LiveControl<'g, J, G>
 where
     Published<J>: Absorb<Event<J>, State = [Batch; 0]>,
 {
+    ghost use Rattle.std.specs.Coded.{codes};
+    ghost use Rattle.adj_rib.specs.Routes.{routes_code};
+    ghost use Rattle.cover_table.specs.Tables.{cells_code};
     ghost use Rattle.live_rounds.specs.Parts.{Standing};
 
     ghost Value = { Standing };
 
+    ghost coded = { Prim.hlevel (codes, routes_code, cells_code) };
+
     ghost view = { λ c. record {
-        control = c.control;
-        shown = c.publications.shown;
-        batches = c.publications.batches;
-        kinds = J.opening;
-        rounds = c.rounds;
+      control = c.control;
+      shown = c.publications.shown;
+      batches = c.publications.batches;
+      kinds = J.opening;
+      rounds = c.rounds;
     } };
 }
 

@@ -1,5 +1,5 @@
 //! Where the publications of a live run go: to a snapshot of the control's own, and to the passes.
-ghost use Rattle.std.specs.Prelude.{◌≡◌, [], IfOk, length};
+ghost use Rattle.std.specs.Prelude.{◌≡◌, ◌<◌, ◌≤◌, [], IfOk, length};
 ghost use Rattle.std.specs.List.{AllByRecursion};
 ghost use Rattle.cover_table.specs.Judging.{judge};
 ghost use Rattle.epoch_publish.specs.Publications.{fresh};
@@ -15,6 +15,7 @@ use std::sync::Wait;
 use urpf_base::{Addr, OutOfMemory, Verdict};
 
 /// What is lent to a publication: leave to wait for passes, and who is told of it.
+#[derive(Drop)]
 pub struct Aid<'a, R, G> {
     pub rt: &'a R,
     pub gate: &'a G,
@@ -34,9 +35,13 @@ impl<J: Naming> Model for Publications<J>
 where
     Published<J>: Absorb<Event<J>, State = [Batch; 0]>,
 {
+    ghost use Rattle.std.specs.Coded.{codes};
+    ghost use Rattle.cover_table.specs.Tables.{cells_code};
     ghost use Rattle.live_control.specs.Standings.{PublicationState};
 
     ghost Value = { PublicationState };
+
+    ghost coded = { Prim.hlevel (codes, cells_code) };
 
     ghost view = { λ p. record { shown = p.snapshot; batches = p.publisher.list } };
 }
@@ -61,7 +66,13 @@ where
         ensures most { IfOk result (λ t. length t.1 ≤ passes) }
     {
         match Publisher::start(alloc, opened, passes) {
-            Ok((publisher, passes)) => Ok((Publications { snapshot, publisher }, passes)),
+            Ok((publisher, passes)) => Ok((
+                Publications {
+                    snapshot,
+                    publisher,
+                },
+                passes,
+            )),
             Err(OutOfMemory) => Err(OutOfMemory),
         }
     }

@@ -110,6 +110,7 @@ module _ {S P : Type 0} (identity : S → Option Book) (opening : S → List (�
       → WorkedRound stop_at kinds batches (length low) (station_of left old) (station_of left new)
   one_worked stop_at kinds low batches old mid new w s grows ready fine = record {
     round = round_settled stop_at batches old mid new w s;
+    ended = rw (s.desk, s.outcome) w.ended;
     judged = judged_by stop_at kinds low batches old mid new new.known s.known w s grows ready.1;
     fine = fine;
   }
@@ -152,6 +153,7 @@ module _ {S P : Type 0} (identity : S → Option Book) (opening : S → List (�
       let ends = one_worked stop.End kinds batches batches told mid new w s ([], append-nil batches)
       (one_told kinds low batches old told first ready) fine in record {
         round = rw (sym first.desk, sym first.packets) ends.round;
+        ended = rw (sym first.desk) ends.ended;
         judged = ends.judged;
         fine = fine;
       }

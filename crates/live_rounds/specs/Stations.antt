@@ -1,5 +1,5 @@
 -- A worker between rounds, and what a round makes of it. Our own choice.
-use Rattle.std.specs.Prelude.{◌≡◌, ◌⊎◌, ℕ, ◌≤◌, Bool, true, List, [], length, map, Option, None}
+use Rattle.std.specs.Prelude.{◌≡◌, ◌⊎◌, ◌↔◌, ℕ, ◌≤◌, Bool, true, List, [], length, map, Option, None}
 use mathlib.Core.List.{IsPrefix}
 use Rattle.logbook.specs.Pages.{Book}
 use Rattle.urpf_base.specs.declared.kinds.Kind.{Kind}
@@ -60,6 +60,7 @@ table_of kinds batches station = map (final_row station.known kinds batches) sta
 pub record WorkedRound (stop : Stop) (kinds : List (ℕ × Kind)) (batches : List Batch) (lowest : ℕ)
     (old new : Station) : Type 0 where
   pub round : IsRound stop old.desk new.desk old.left new.left [] new.rows new.outcome
+  pub ended : (new.desk.ended ≡ true) ↔ ((old.desk.ended ≡ true) ⊎ (new.outcome ≡ end.End))
   pub judged : AreJudged kinds batches lowest (table_of kinds batches new)
   pub fine : IsFine new.outcome
 
@@ -68,6 +69,7 @@ module _ {S P : Type 0} (identity : S → Option Book) (opening : S → List (�
   -- a worker worked a round: what it read and made of it, and what its checker did
   pub record Worked (stop : Stop) (old new : Worker S P) : Type 0 where
     pub round : IsRound stop old.desk new.desk (left old.packets) (left new.packets) [] new.rows new.outcome
+    pub ended : (new.desk.ended ≡ true) ↔ ((old.desk.ended ≡ true) ⊎ (new.outcome ≡ end.End))
     pub fit : IsFit new
     pub answered : AreAnswered (opening new.place) (list new.place) (length (list old.place)) new.rows
     pub same_identity : identity new.place ≡ identity old.place

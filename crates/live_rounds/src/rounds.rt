@@ -47,35 +47,6 @@ pub fn run_rounds<
     part: &mut C,
     book: &Book,
     feeds: &mut Vec<Option<BoxedFeed>>,
-    workers: &mut Vec<Worker<Seat<J>, P>>,
-    gate: &G,
-    out: &mut K,
-) -> Result<(), LiveFault>
-    requires ready { C.ready book.now 0 (length feeds.old.items) (C.state part.old) }
-    requires sound { IsSound J.opening (C.state part.old) }
-    requires workers { AllByRecursion (IsReady identity_of opening_of list_of P.left J.opening (C.state part.old).batches) workers.old.items }
-    requires few { vec_len workers.old ≤ 32 }
-    ensures ran { OnOk result (IsLiveRun C.ran J.opening book.now
-        (stage (C.state part.old) (slots_in ⟦<BoxedFeed as Feed>⟧.left feeds.old.items) (K.held out.old) (map (station_of P.left) workers.old.items))
-        (stage (C.state part.new) (slots_in ⟦<BoxedFeed as Feed>⟧.left feeds.new.items) (K.held out.new) (map (station_of P.left) workers.new.items))) }
-{
-    take_rounds(rt, alloc, part, book, feeds, workers, gate, out)
-}
-
-/// Takes the rounds of the book one after the other, and what comes behind them.
-fn take_rounds<
-    J: Naming + Send + Sync,
-    R: Threads + Wait + Sync,
-    C: Part<J>,
-    P: PacketSource + Send,
-    G: Gate + Sync,
-    K: Sink,
->(
-    rt: &R,
-    alloc: Global,
-    part: &mut C,
-    book: &Book,
-    feeds: &mut Vec<Option<BoxedFeed>>,
     workers: &mut [Worker<Seat<J>, P>],
     gate: &G,
     out: &mut K,

@@ -5,7 +5,7 @@ use Rattle.live_rounds.specs.Rounds.{stage}
 use Rattle.live_rounds.specs.Seats.{identity_of, list_of, opening_of}
 use Rattle.live_rounds.specs.Stations.{IsReady, station_of}
 use Rattle.live_rounds.proofs.Joining.{AreRun}
-use Rattle.live_rounds.proofs.rounds.take_rounds.Given as goal
+use Rattle.live_rounds.proofs.rounds.run_rounds.Given as goal
 
 -- the lines so far are rounds that were run, and the next one can be
 abbrev pub invariant-loop-upto : goal.invariant-loop-upto

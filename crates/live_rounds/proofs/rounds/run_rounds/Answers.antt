@@ -1,7 +1,7 @@
 use Rattle.std.proofs.Common.{◌+◌, arith}
 use Rattle.live_rounds.proofs.Joining.{run_ends, run_more, run_none}
 use Rattle.live_rounds.proofs.Ending.{on_ok}
-use Rattle.live_rounds.proofs.rounds.take_rounds.Goals as goal
+use Rattle.live_rounds.proofs.rounds.run_rounds.Goals as goal
 
 pub loop-upto-init : goal.loop-upto-init
 loop-upto-init g c = record {

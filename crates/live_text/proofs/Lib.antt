@@ -1,0 +1,4 @@
+pub mod Blocks
+pub mod MarkWorlds
+pub mod Numbers
+pub mod Verdicts

@@ -1,0 +1,4 @@
+pub mod Packets
+pub mod Numbers
+pub mod Tables
+pub mod Texts

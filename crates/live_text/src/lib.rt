@@ -1,0 +1,6 @@
+//! The text of a live run with the rows of its packets.
+#![tactic(auto)]
+
+mod laws;
+
+pub use laws::verdicts_of_marks;

@@ -1,4 +1,12 @@
 pub mod Blocks
+pub mod Joined
 pub mod MarkWorlds
 pub mod Numbers
+pub mod Reading
+pub mod RoundRows
+pub mod RoundsRead
 pub mod Verdicts
+pub mod Worked
+pub mod RoundTexts
+pub mod Counting
+pub mod Rests

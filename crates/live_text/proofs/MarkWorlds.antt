@@ -1,15 +1,14 @@
 -- What the batches of steps leave judges as the world of the last mark does, at each place of a run.
-use Rattle.std.proofs.Common.{◌≡◌, ◌↔◌, ℕ, zero, suc, ◌+◌, ◌≤◌, List, [], ◌∷◌, ◌++◌, length, map, take, Option}
-use Rattle.std.proofs.Common.{refl, sym, ap, subst, ◌∙◌, arith, inl, inr, ◌⊎◌}
+use Rattle.std.proofs.Common.{◌≡◌, ℕ, zero, suc, ◌+◌, ◌≤◌, List, [], ◌∷◌, ◌++◌, length, map, take, Option}
+use Rattle.std.proofs.Common.{refl, sym, ap, subst, ◌∙◌, arith, inl, inr}
 use Rattle.std.proofs.lemmas.List.{length-append, take-append-le}
 use Rattle.urpf_base.specs.Address.{Block}
-use Rattle.urpf_base.specs.Lists.{Has}
 use Rattle.urpf_base.specs.declared.address.Addr.{Addr}
 use Rattle.urpf_base.specs.declared.kinds.Kind.{Kind}
 use Rattle.urpf_base.specs.declared.sessions.SessionConfig.{SessionConfig}
-use Rattle.origin_pairs.specs.Pairs.{AreSamePairs, IsPairSet}
+use Rattle.origin_pairs.specs.Pairs.{IsPairSet}
 use Rattle.origin_pairs.proofs.Sets.{some_set}
-use Rattle.rpf_plain.specs.Cells.{IsCell, IsDifference, cell_at}
+use Rattle.rpf_plain.specs.Cells.{IsCell, cell_at}
 use Rattle.rpf_plain.specs.Modes.{IsVerdict}
 use Rattle.rpf_plain.specs.World.{World, roles_of, world_for}
 use Rattle.rpf_plain.specs.declared.rows.Row.{Row}
@@ -21,11 +20,11 @@ use Rattle.cover_table.specs.Snapshots.{Publication, after, step}
 use Rattle.cover_table.specs.declared.batch.Batch.{Batch}
 use Rattle.router_config.specs.declared.edits.Edit.{Edit}
 use Rattle.control_core.specs.Batches.{Mark}
-use Rattle.control_core.specs.Worlds.{Course, IsRowOfAny, IsWorldAt, Position, kinds_after, pairs_after}
+use Rattle.control_core.specs.Worlds.{Course, IsRowOfAny, Position, kinds_after, pairs_after}
 use Rattle.control_core.proofs.BatchWorlds.{cell_then, verdict_of}
-use Rattle.run_lines.specs.Inputs.{Run, courses_of, opening_of, pairs_in}
-use Rattle.run_lines.specs.Places.{Place, mark_at, next_place, opening, place_after}
-use Rattle.run_lines.specs.Publications.{AreBatches, HandsOn, IsBatchAt}
+use Rattle.run_lines.specs.Inputs.{Run, courses_of, pairs_in}
+use Rattle.run_lines.specs.Places.{Place, next_place, opening, place_after}
+use Rattle.run_lines.specs.Publications.{AreBatches, IsBatchAt}
 use Rattle.run_lines.specs.RunText.{IsWorldOf}
 use Rattle.run_lines.specs.Steps as steps
 use Rattle.run_lines.specs.Steps.{Step}

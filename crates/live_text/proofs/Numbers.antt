@@ -1,13 +1,13 @@
 -- How many marks and rounds steps make, and the numbers of marks by rounds.
-use Rattle.std.proofs.Common.{◌≡◌, ℕ, zero, suc, ◌+◌, ◌-◌, ◌≤◌, List, [], ◌∷◌, ◌++◌, length}
-use Rattle.std.proofs.Common.{refl, sym, ap, ◌∙◌, arith}
+use Rattle.std.proofs.Common.{◌≡◌, ℕ, zero, suc, ◌+◌, ◌≤◌, List, [], ◌∷◌, ◌++◌, length}
+use Rattle.std.proofs.Common.{refl, ap, ◌∙◌, arith}
 use Rattle.std.proofs.lemmas.List.{length-append}
 use Rattle.cover_table.specs.declared.batch.Batch.{Batch}
 use Rattle.run_lines.specs.Inputs.{Input, Run}
 use Rattle.run_lines.specs.Places.{Place, next_place, place_after}
 use Rattle.run_lines.specs.Publications.{AreBatches, HandsOn}
 use Rattle.run_lines.specs.Steps.{Step, pull, publish, round, check, change, summary}
-use Rattle.live_text.specs.Numbers.{last_of, round_count, rounds_by}
+use Rattle.live_text.specs.Numbers.{last_of, round_count}
 
 -- how many marks a step makes
 abbrev pub marks_by : Step → ℕ
@@ -116,3 +116,28 @@ last-behind (check iface addr ∷ steps) r less =
 last-behind (change edit ∷ steps) r less =
     let more = last-behind steps r (omega (arith, less)) in omega (arith, more)
 last-behind (summary ∷ steps) r less = let more = last-behind steps r (omega (arith, less)) in omega (arith, more)
+
+-- no last number is above that of all marks
+pub last_most : (steps : List Step) (r : ℕ) → last_of steps r ≤ mark_count steps
+last_most steps zero = omega arith
+last_most [] (suc r) = omega arith
+last_most (pull session count ∷ steps) (suc r) = let more = last_most steps (suc r) in omega (arith, more)
+last_most (publish ∷ steps) (suc r) = let more = last_most steps (suc r) in omega (arith, more)
+last_most (round ∷ steps) (suc r) = let more = last_most steps r in omega (arith, more)
+last_most (check iface addr ∷ steps) (suc r) = let more = last_most steps (suc r) in omega (arith, more)
+last_most (change edit ∷ steps) (suc r) = let more = last_most steps (suc r) in omega (arith, more)
+last_most (summary ∷ steps) (suc r) = let more = last_most steps (suc r) in omega (arith, more)
+
+-- steps and the end of their next round: its last number is that of their marks
+pub last_ends : (first : List Step) (r : ℕ) → r ≡ round_count first
+    → last_of (first ++ round ∷ []) (suc r) ≡ mark_count first
+last_ends [] r is = ap (λ (n : ℕ). last_of [] n) is
+last_ends (pull session count ∷ first) r is =
+    let more = last_ends first r (omega (arith, is)) in omega (arith, more)
+last_ends (publish ∷ first) r is = let more = last_ends first r (omega (arith, is)) in omega (arith, more)
+last_ends (round ∷ first) zero is = absurd (omega (arith, is))
+last_ends (round ∷ first) (suc r) is = let more = last_ends first r (omega (arith, is)) in omega (arith, more)
+last_ends (check iface addr ∷ first) r is =
+    let more = last_ends first r (omega (arith, is)) in omega (arith, more)
+last_ends (change edit ∷ first) r is = let more = last_ends first r (omega (arith, is)) in omega (arith, more)
+last_ends (summary ∷ first) r is = let more = last_ends first r (omega (arith, is)) in omega (arith, more)

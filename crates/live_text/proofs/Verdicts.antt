@@ -1,5 +1,5 @@
 -- The verdicts of the first batches of a run are those of the worlds of its marks.
-use Rattle.std.proofs.Common.{◌≡◌, ℕ, ◌≤◌, List, length, take, Option, ◌∙◌, arith}
+use Rattle.std.proofs.Common.{ℕ, ◌≤◌, List, length, take, Option, arith}
 use Rattle.urpf_base.specs.declared.address.Addr.{Addr}
 use Rattle.cover_table.specs.Judging.{judge}
 use Rattle.cover_table.specs.Snapshots as snapshots

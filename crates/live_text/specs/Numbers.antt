@@ -15,7 +15,8 @@ abbrev pub round_count : List Step → ℕ
 round_count [] = 0
 round_count (step ∷ steps) = rounds_by step + round_count steps
 
--- the number of the last mark before the step that ends this round, and of all marks where no step ends it; 0 for round 0
+-- the number of the last mark before the step that ends this round, and of all marks where no step ends it; 0
+-- for round 0
 abbrev pub last_of : List Step → ℕ → ℕ
 last_of steps zero = 0
 last_of [] (suc r) = 0

@@ -10,8 +10,8 @@ pub record Packet : Type 0 where
   pub iface : ℕ
   pub octets : List ℕ
 
--- the packets among records, whose places follow this one: they are of this round, and behind each marker of the next one,
--- but of none behind the last
+-- the packets among records, whose places follow this one: they are of this round, and behind each marker of
+-- the next one, but of none behind the last
 abbrev pub packets_from : ℕ → ℕ → ℕ → ℕ → List PacketRecord → List Packet
 packets_from last worker place round [] = []
 packets_from last worker place round (packet iface octets ∷ records) =

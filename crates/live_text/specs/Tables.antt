@@ -36,8 +36,8 @@ pub record IsVerdictOf (run : Run) (steps : List Step) (number iface : ℕ) (sou
   pub is : IsWorldOf run (place_behind run before) (place_behind run before).mark kinds world
   pub judges : IsVerdict kinds world.rows world.pairs iface source verdict
 
--- the row of a packet: in a round of the run it names a mark from the last one before the round on up to the last one in
--- it, and behind all rounds the last one of all, and it has the verdict by the world of that mark
+-- the row of a packet: in a round of the run it names a mark from the last one before the round on up to the
+-- last one in it, and behind all rounds the last one of all, and it has the verdict by the world of that mark
 pub record IsRowFor (run : Run) (steps : List Step) (packet : Packet) (entry : ℕ × Row) : Type 0 where
   pub round : entry.0 ≡ packet.round
   pub worker : entry.1.worker ≡ packet.worker

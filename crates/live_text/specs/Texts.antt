@@ -1,5 +1,5 @@
--- The text of a run with the rows of its packets: behind each step what it gives, behind the end of each round its rows,
--- and behind all steps the other rows and the closing line. Our own choice.
+-- The text of a run with the rows of its packets: behind each step what it gives, behind the end of each round
+-- its rows, and behind all steps the other rows and the closing line. Our own choice.
 use Rattle.std.specs.Prelude.{◌≡◌, ℕ, ◌+◌, ◌==◌, List, [], ◌∷◌, ◌++◌, length, map, sum}
 use Rattle.std.specs.List.{concat, filter}
 use Rattle.report_text.specs.Lines.{done_line}

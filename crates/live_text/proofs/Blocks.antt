@@ -1,8 +1,10 @@
 -- The text of steps with the rows of their rounds, block by block.
-use Rattle.std.proofs.Common.{◌≡◌, ℕ, ◌+◌, List, [], ◌∷◌, ◌++◌, refl, sym, ap, ◌∙◌, append_assoc, arith}
+use Rattle.std.proofs.Common.{◌≡◌, ℕ, ◌+◌, List, [], ◌∷◌, ◌++◌, refl, sym, ap, subst, ◌∙◌, append_assoc, arith}
 use Rattle.std.specs.List.{concat}
 use Rattle.run_lines.specs.Inputs.{Run}
-use Rattle.run_lines.specs.Places.{Place, next_place}
+use Rattle.cover_table.specs.declared.batch.Batch.{Batch}
+use Rattle.run_lines.specs.Places.{Place, next_place, place_after}
+use Rattle.run_lines.specs.Publications.{AreBatches}
 use Rattle.run_lines.specs.RunText.{GiveAll}
 use Rattle.run_lines.specs.Steps.{Step, pull, publish, round, check, change, summary}
 use Rattle.live_text.specs.Numbers.{round_count, rounds_by}
@@ -46,3 +48,29 @@ pub round_block : (tables : List Table) (number : ℕ) (text : List ℕ) (later 
     → with_rows tables number (round ∷ later) (text ∷ others)
     ≡ text ++ (round_text number tables ++ with_rows tables (number + 1) later others)
 round_block tables number text later others = refl
+
+-- ---- steps and those behind them
+
+-- their texts
+pub given_then : (run : Run) (place : Place) (first later : List Step) (texts others : List (List ℕ))
+    → GiveAll run place first texts → GiveAll run (place_after run.inputs first place) later others
+    → GiveAll run place (first ++ later) (texts ++ others)
+given_then run place [] later [] others given rest = rest
+given_then run place [] later (t ∷ texts) others given rest = absurd given
+given_then run place (step ∷ first) later [] others given rest = absurd given
+given_then run place (step ∷ first) later (t ∷ texts) others given rest =
+    (given.0, given_then run (next_place run.inputs step place) first later texts others given.1 rest)
+
+-- and their batches
+pub batches_then : (run : Run) (place : Place) (first later : List Step) (a b : List Batch)
+    → AreBatches run place first a → AreBatches run (place_after run.inputs first place) later b
+    → AreBatches run place (first ++ later) (a ++ b)
+batches_then run place [] later a b are next =
+    subst (λ (bs : List Batch). AreBatches run place later (bs ++ b)) (sym are) next
+batches_then run place (step ∷ first) later a b are next = (
+  are.0,
+  are.1 ++ b,
+  ap (λ (bs : List Batch). bs ++ b) are.2 ∙ append_assoc are.0 are.1 b,
+  are.3,
+  batches_then run (next_place run.inputs step place) first later are.1 b are.4 next,
+)

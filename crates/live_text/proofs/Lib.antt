@@ -10,3 +10,4 @@ pub mod Worked
 pub mod RoundTexts
 pub mod Counting
 pub mod Rests
+pub mod Continuing

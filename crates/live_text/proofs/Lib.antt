@@ -11,3 +11,4 @@ pub mod RoundTexts
 pub mod Counting
 pub mod Rests
 pub mod Continuing
+pub mod Whole

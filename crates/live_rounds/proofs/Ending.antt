@@ -1,6 +1,6 @@
 -- What a round comes to, and what comes behind the last one, out of what their parts do.
-use Rattle.std.proofs.Common.{◌≡◌, ℕ, ◌+◌, ◌≤◌, List, [], ◌∷◌, ◌++◌, length, map, slice_get, slice_range}
-use Rattle.std.proofs.Common.{Option, Some, Ok, Err, Result, OnOk, refl, ap, sym, subst, ◌∙◌}
+use Rattle.std.proofs.Common.{◌≡◌, ℕ, ◌+◌, ◌≤◌, List, length, map, slice_get, slice_range}
+use Rattle.std.proofs.Common.{Option, Some, Ok, Err, Result, OnOk, sym, subst, ◌∙◌}
 use Rattle.std.specs.List.{AllByRecursion, AllZip}
 use Rattle.std.specs.Io.KnownBytes.{Appends}
 use mathlib.Core.List.{IsPrefix}

@@ -9,15 +9,13 @@ use mathlib.Core.List.{IsPrefix}
 use Rattle.logbook.specs.Pages.{Book}
 use Rattle.urpf_base.specs.declared.kinds.Kind.{Kind}
 use Rattle.cover_table.specs.declared.batch.Batch.{Batch}
-use Rattle.forward_worker.specs.declared.desk.Desk.{Desk}
 use Rattle.forward_worker.specs.declared.desk.Stop.{Stop}
 use Rattle.forward_worker.specs.declared.desk.Stop.TheVariants as stop
-use Rattle.forward_worker.specs.declared.rows.CheckRow.{CheckRow}
 use Rattle.forward_worker.specs.Answers.{AreAnswered}
 use Rattle.forward_worker.specs.Rounds.{IsRound}
 use Rattle.forward_worker.proofs.Answering.{answered_longer}
 use Rattle.live_rounds.specs.Rows.{AreJudged, final_row}
-use Rattle.live_rounds.specs.Stations.{IsFine, IsFit, IsReady, IsTold, Settled, Station, Worked, WorkedRound, station_of}
+use Rattle.live_rounds.specs.Stations.{IsFine, IsReady, IsTold, Settled, Worked, WorkedRound, station_of}
 use Rattle.live_rounds.specs.declared.worker.TheConstants.{RECORD_LIMIT}
 use Rattle.live_rounds.specs.declared.worker.Worker.{Worker}
 use Rattle.live_rounds.proofs.Judging.{known_judged, unknown_judged}

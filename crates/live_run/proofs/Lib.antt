@@ -1,1 +1,2 @@
+pub mod AtFirst
 pub mod Hired

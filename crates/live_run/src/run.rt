@@ -44,12 +44,7 @@ const WANT: LiveFault = LiveFault::Run(RunFault::OutOfMemory);
 /// sessions, one each, and the packets of the workers, from the opening to the closing line. A feed
 /// goes out of its slot at its end, and all packets are in their places at the return. Where the
 /// opening wants memory nothing is written, and no feed and no packet is asked.
-pub fn run_live<
-    R: Threads + Wait + Sync,
-    P: PacketSource + Send + Drop,
-    K: Sink,
-    G: Gate + Sync,
->(
+pub fn run_live<R: Threads + Wait + Sync, P: PacketSource + Send + Drop, K: Sink, G: Gate + Sync>(
     rt: &R,
     alloc: Global,
     config: Config,
@@ -160,7 +155,16 @@ where
     match LiveControl::start(alloc, config, pairs, opened, count, gate) {
         Ok((mut control, mut passes, totals)) => {
             let result = run_hired(
-                rt, alloc, &mut control, &mut passes, &totals, book, feeds, packets, out, gate,
+                rt,
+                alloc,
+                &mut control,
+                &mut passes,
+                &totals,
+                book,
+                feeds,
+                packets,
+                out,
+                gate,
             );
             control.end(rt);
             result

@@ -1,18 +1,13 @@
 -- How many packets the rounds of the workers read: as many as they made rows.
-use Rattle.std.proofs.Common.{◌≡◌, ◌∙◌, ℕ, zero, suc, ◌+◌, ◌-◌, ◌<◌, ◌≤◌, Bool, List, [], ◌∷◌, ◌++◌, length, map, min}
-use Rattle.std.proofs.Common.{Option, Some, None, Ok, refl, ap, sym, subst, arith, append_assoc, append-nil}
-use Rattle.std.proofs.lemmas.List.{length-append}
-use Rattle.std.specs.List.{AllZip, concat}
+use Rattle.std.proofs.Common.{◌≡◌, ◌∙◌, ℕ, suc, ◌+◌, List, [], ◌∷◌, length, map}
+use Rattle.std.proofs.Common.{Option, refl, ap, sym, arith}
+use Rattle.std.specs.List.{AllZip}
 use Rattle.std.specs.Prelude.{sum}
-use Rattle.std.specs.Io.KnownBytes.{Appends}
-use mathlib.Core.List.{IsPrefix}
 use Rattle.urpf_base.specs.declared.kinds.Kind.{Kind}
-use Rattle.urpf_base.proofs.Growth.{Appends-append}
 use Rattle.cover_table.specs.declared.batch.Batch.{Batch}
 use Rattle.forward_worker.specs.Rounds.{EndsBy, IsRound}
 use Rattle.forward_worker.specs.declared.desk.Desk.{Desk}
 use Rattle.forward_worker.specs.declared.desk.Stop.{Stop}
-use Rattle.forward_worker.specs.declared.desk.Stop.TheVariants as stop
 use Rattle.forward_worker.specs.declared.desk.WorkerEnd.{WorkerEnd}
 use Rattle.forward_worker.specs.declared.desk.WorkerEnd.TheVariants as end
 use Rattle.forward_worker.specs.declared.rows.CheckRow.{CheckRow}

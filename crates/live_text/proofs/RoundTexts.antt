@@ -1,6 +1,6 @@
 -- The rows of one round among those of all rounds: a round of rows is put before the later ones, worker by worker.
-use Rattle.std.proofs.Common.{◌≡◌, ◌==◌, ◌∙◌, ℕ, zero, suc, ◌+◌, ◌<◌, ◌≤◌, Bool, true, false, if◌then◌else◌}
-use Rattle.std.proofs.Common.{List, [], ◌∷◌, ◌++◌, length, map, refl, ap, sym, arith, append_assoc, eq-eqb}
+use Rattle.std.proofs.Common.{◌≡◌, ◌==◌, ◌∙◌, ℕ, suc, ◌+◌, ◌<◌, ◌≤◌, Bool, if◌then◌else◌}
+use Rattle.std.proofs.Common.{List, [], ◌∷◌, ◌++◌, length, map, refl, ap, arith, eq-eqb}
 use Rattle.std.proofs.lemmas.Bool.{ne_eqb}
 use Rattle.std.proofs.lemmas.List.{length-append, length-map}
 use Rattle.std.proofs.lemmas.List.Sums.{sum_by-cons}
@@ -161,7 +161,7 @@ module _ (number : ℕ) (kinds : List (ℕ × Kind)) (batches : List Batch) wher
 
   rows_many : (s : Station) → length (in_round number (table_of kinds batches s)) ≡ length s.rows
   rows_many s = let a = length-map (table_of kinds batches s) (λ (row : Row). (number, row)) in
-    let b = length-map s.rows _ in a ∙ b
+      let b = length-map s.rows _ in a ∙ b
 
   -- how many rows there are in all
   pub put_count : (stations : List Station) (tables : List Table) → length tables ≤ length stations

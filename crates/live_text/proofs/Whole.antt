@@ -1,12 +1,11 @@
 -- A whole live run writes the text of its run with legal rows.
-use Rattle.std.proofs.Common.{◌≡◌, ◌∙◌, ℕ, zero, suc, ◌+◌, ◌≤◌, false, true, List, [], ◌∷◌, ◌++◌, length, map}
+use Rattle.std.proofs.Common.{◌≡◌, ◌∙◌, ℕ, zero, suc, ◌+◌, false, List, [], ◌∷◌, ◌++◌, length, map}
 use Rattle.std.proofs.Common.{Option, None, Some}
 use Rattle.std.proofs.Common.{refl, ap, sym, subst, arith, append_assoc}
 use Rattle.std.proofs.lemmas.List.{map-append}
-use Rattle.std.specs.List.{AllZip, flat_map}
+use Rattle.std.specs.List.{flat_map}
 use Rattle.std.specs.Io.KnownBytes.{Appends}
 use Rattle.urpf_base.proofs.Growth.{Appends-append}
-use Rattle.urpf_base.specs.declared.kinds.Kind.{Kind}
 use Rattle.cover_table.specs.declared.batch.Batch.{Batch}
 use Rattle.report_text.specs.Lines.{done_line}
 use Rattle.runbook.specs.declared.lines.BookLine.{BookLine}
@@ -20,14 +19,14 @@ use Rattle.run_lines.specs.Slots.{Slot}
 use Rattle.run_lines.specs.Steps.{Step, lines_in, pull, pulls_of, round, steps_in, steps_of}
 use Rattle.run_lines.proofs.Composing.{steps_of-append}
 use Rattle.live_rounds.specs.Parts.{Standing}
-use Rattle.live_rounds.specs.Rounds.{AreOthers, AreRounds, IsLastOf, IsLiveRun, IsOther, IsRoundOf, Stage, packet_count}
+use Rattle.live_rounds.specs.Rounds.{AreOthers, AreRounds, IsLastOf, IsLiveRun, IsOther, Stage, packet_count}
 use Rattle.live_rounds.specs.Stations.{Station}
 use Rattle.live_control.specs.Standings.{Leads, Ran, steps_in_lines}
 use Rattle.live_text.specs.Numbers.{round_count}
 use Rattle.live_text.specs.Tables.{AreTablesOf, Table}
 use Rattle.live_text.specs.Texts.{IsLiveText, row_count, with_rows}
 use Rattle.live_text.proofs.Continuing.{Continues, continues_last, continues_round}
-use Rattle.live_text.proofs.Numbers.{batch_count, mark_count, number_after, rounds-append}
+use Rattle.live_text.proofs.Numbers.{batch_count, number_after, rounds-append}
 use Rattle.live_text.proofs.Joined.{IsRestOf}
 use Rattle.live_text.proofs.Rests.{AreRests}
 use Rattle.live_text.proofs.RoundTexts.{sum_more}

@@ -1,5 +1,4 @@
-use Rattle.std.proofs.Common.{◌≡◌, arith, length, slice_range, subst}
-use Rattle.live_rounds.specs.Rounds.{AreOthers}
+use Rattle.std.proofs.Common.{arith}
 use Rattle.live_rounds.proofs.Joining.{others_next, others_none}
 use Rattle.live_rounds.proofs.rounds.next_round.Goals as goal
 
